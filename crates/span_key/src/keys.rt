@@ -1,0 +1,61 @@
+// Keys: byte strings of a limited length.
+ghost use Rattle.std.specs.Prelude.{◌≡◌, ℕ, ◌≤◌, ◌<◌, length, IfOk, OnOk};
+
+use std::alloc::Global;
+use std::marker::Model;
+
+/// Memory was refused.
+#[derive(Clone, Copy, Debug)]
+pub struct Memory;
+
+/// Why a key wasn't made.
+#[derive(Debug, Drop)]
+pub enum KeyFault {
+    /// The bytes are `len`, which is more than a key may have.
+    TooLong { len: usize },
+    Memory,
+}
+
+/// A byte string of at most `Key::MAX` bytes. It may be empty.
+#[derive(Debug, Drop)]
+pub struct Key {
+    bytes: Vec<u8>,
+}
+
+impl Model for Key {
+    ghost use Rattle.std.specs.Prelude.{ℕ, ◌≤◌, List, length};
+
+    ghost Value = { List ℕ };
+
+    ghost view = { λ k. k.bytes.items };
+
+    ghost invariant = { λ k. length k.bytes.items ≤ 256 };
+}
+
+impl Key {
+    ghost use Rattle.span_key.specs.Spans.{IsBytes};
+
+    /// A key with these bytes.
+    pub fn new(alloc: Global, bytes: &[u8]) -> Result<Key, KeyFault>
+        ensures key { IfOk result (λ k. k ≡ bytes.now) }
+        ensures too_long { (len : ℕ) → result ≡ Err (KeyFault.TooLong len) → (len ≡ length bytes.now) × (256 < length bytes.now) }
+        ensures long { 256 < length bytes.now → result ≡ Err (KeyFault.TooLong (length bytes.now)) }
+    {
+        if bytes.len() > 256 {
+            return Err(KeyFault::TooLong { len: bytes.len() });
+        }
+        match Vec::from_slice(alloc, bytes) {
+            Ok(bytes) => Ok(Key { bytes }),
+            Err(_) => Err(KeyFault::Memory),
+        }
+    }
+
+    /// The bytes of the key.
+    pub fn bytes(&self) -> &[u8]
+        ensures bytes { result.now ≡ self.now }
+        ensures few { length self.now ≤ 256 }
+        ensures in_range { IsBytes self.now }
+    {
+        self.bytes.as_slice()
+    }
+}
