@@ -2,7 +2,7 @@
 -- A span is a pair (key, end): the keys from `key` up to the excluded `end`, or the single key `key` where
 -- `end` is empty. What two spans have to do with each other is said by the keys that are in them. The tests
 -- at the end answer the same by the bounds, so that a list of spans can be filtered by them.
-use Rattle.std.specs.Prelude.{◌≡◌, ◌≢◌, ℕ, ◌+◌, ◌<◌, ◌≤◌, ◌⊎◌, ◌==◌, ◌&&◌, Bool, true, false, IsTrue, List, [], ◌∷◌, ◌++◌, length, slice_index, Option, Some, None}
+use Rattle.std.specs.Prelude.{◌≡◌, ◌≢◌, ℕ, ◌<◌, ◌≤◌, ◌⊎◌, ◌==◌, ◌&&◌, Bool, true, false, IsTrue, List, [], ◌∷◌, ◌++◌, length, slice_index, Option, Some, None}
 use Rattle.std.specs.Ordering.{nat_cmp, is_lt, is_le, ordering_then, bool_cmp}
 use Rattle.std.specs.Cmp.Lexicographic.{slice_cmp}
 use Rattle.std.specs.declared.cmp.Ordering.{Ordering}
@@ -44,12 +44,19 @@ Overlap s t = (k : List ℕ) × IsBytes k × IsIn k s × IsIn k t
 abbrev pub LiesIn : Pair → Pair → Type 0
 LiesIn s t = (k : List ℕ) → IsBytes k → IsIn k s → IsIn k t
 
--- what the value of a span keeps: two keys of at most 256 bytes, of which the end is empty or past the key
+-- the greatest length of a key that a program can hold
+abbrev pub key_limit : ℕ
+key_limit = 256
+
+-- what the value of a key keeps
+pub record IsKey (k : List ℕ) : Type 0 where
+  pub bytes : IsBytes k
+  pub fits : length k ≤ key_limit
+
+-- what the value of a span keeps: the end is empty or past the key
 pub record IsSpan (s : Pair) : Type 0 where
-  pub key_bytes : IsBytes s.0
-  pub end_bytes : IsBytes s.1
-  pub key_fits : length s.0 ≤ 256
-  pub end_fits : length s.1 ≤ 256
+  pub key : IsKey s.0
+  pub end : IsKey s.1
   pub ordered : s.1 ≢ [] → KeyLess s.0 s.1
 
 -- the key that comes next after k, since no key is between k and k with a byte 0 behind it

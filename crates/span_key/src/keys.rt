@@ -16,32 +16,37 @@ pub enum KeyFault {
     Memory,
 }
 
-/// A byte string of at most `Key::MAX` bytes. It may be empty.
+/// A byte string of at most `Key::LIMIT` bytes. It may be empty.
 #[derive(Debug, Drop)]
 pub struct Key {
     bytes: Vec<u8>,
 }
 
 impl Model for Key {
-    ghost use Rattle.std.specs.Prelude.{ℕ, ◌≤◌, List, length};
+    ghost use Rattle.std.specs.Prelude.{ℕ, List};
+    ghost use Rattle.span_key.specs.Spans.{IsKey};
 
     ghost Value = { List ℕ };
 
     ghost view = { λ k. k.bytes.items };
 
-    ghost invariant = { λ k. length k.bytes.items ≤ 256 };
+    ghost invariant = { λ k. IsKey k.bytes.items };
 }
 
 impl Key {
-    ghost use Rattle.span_key.specs.Spans.{IsBytes};
+    ghost use Rattle.span_key.specs.Spans.{IsKey, key_limit};
+
+    /// The most bytes that a key may have.
+    pub const LIMIT: usize = 256;
 
     /// A key with these bytes.
     pub fn new(alloc: Global, bytes: &[u8]) -> Result<Key, KeyFault>
         ensures key { IfOk result (λ k. k ≡ bytes.now) }
-        ensures too_long { (len : ℕ) → result ≡ Err (KeyFault.TooLong len) → (len ≡ length bytes.now) × (256 < length bytes.now) }
-        ensures long { 256 < length bytes.now → result ≡ Err (KeyFault.TooLong (length bytes.now)) }
+        ensures valid { IfOk result IsKey }
+        ensures too_long { (len : ℕ) → result ≡ Err (KeyFault.TooLong len) → (len ≡ length bytes.now) × (key_limit < length bytes.now) }
+        ensures long { key_limit < length bytes.now → result ≡ Err (KeyFault.TooLong (length bytes.now)) }
     {
-        if bytes.len() > 256 {
+        if bytes.len() > Key::LIMIT {
             return Err(KeyFault::TooLong { len: bytes.len() });
         }
         match Vec::from_slice(alloc, bytes) {
@@ -53,8 +58,7 @@ impl Key {
     /// The bytes of the key.
     pub fn bytes(&self) -> &[u8]
         ensures bytes { result.now ≡ self.now }
-        ensures few { length self.now ≤ 256 }
-        ensures in_range { IsBytes self.now }
+        ensures valid { IsKey self.now }
     {
         self.bytes.as_slice()
     }
