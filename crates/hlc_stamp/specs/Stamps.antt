@@ -1,0 +1,19 @@
+-- Timestamps. A stamp is a wall time and a logical count. Stamps are in the order of their wall times, and
+-- where these are equal in the order of their logical counts.
+use Rattle.std.specs.Prelude.{◌≡◌, ◌<◌, ◌≤◌, ◌⊎◌, Bool, ◌==◌, ◌&&◌, ◌||◌, nat_lt, nat_le}
+use Rattle.hlc_stamp.specs.declared.Stamp.{Stamp}
+
+-- a is not later than b
+abbrev pub StampUpTo : Stamp → Stamp → Type 0
+StampUpTo a b = (a.wall < b.wall) ⊎ ((a.wall ≡ b.wall) × (a.logical ≤ b.logical))
+
+-- the same as a test
+abbrev pub stamp_le : Stamp → Stamp → Bool
+stamp_le a b = nat_lt a.wall b.wall || (a.wall == b.wall && nat_le a.logical b.logical)
+
+-- the stamp (0, 0), which stands for no time
+abbrev pub IsEmpty : Stamp → Type 0
+IsEmpty a = (a.wall ≡ 0) × (a.logical ≡ 0)
+
+abbrev pub is_empty : Stamp → Bool
+is_empty a = a.wall == 0 && a.logical == 0

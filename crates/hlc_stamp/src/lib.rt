@@ -1,0 +1,33 @@
+//! Timestamps of a hybrid logical clock: a wall time, and a logical count that orders events of one wall time.
+#![tactic(auto)]
+
+ghost use Rattle.std.specs.Prelude.{◌≡◌, ◌↔◌, IsTrue};
+
+/// A timestamp. Stamps are ordered by wall time and then by the logical count, which is what `<` and `cmp` say.
+#[derive(Clone, Copy, Debug, PartialEq, Eq, PartialOrd, Ord)]
+pub struct Stamp {
+    /// The wall time, in nanoseconds.
+    pub wall: u64,
+    pub logical: u32,
+}
+
+impl Stamp {
+    ghost use Rattle.hlc_stamp.specs.Stamps.{is_empty, IsEmpty};
+
+    /// The stamp that stands for no time.
+    pub const EMPTY: Stamp = Stamp {
+        wall: 0,
+        logical: 0,
+    };
+
+    /// Whether this is the empty stamp.
+    pub fn is_empty(self) -> bool
+        ensures test { result ≡ is_empty self }
+        ensures empty { IsTrue result ↔ IsEmpty self }
+    {
+        self == Stamp::EMPTY
+    }
+}
+
+#[cfg(test)]
+mod tests;
