@@ -79,6 +79,14 @@ KeyLess-less_up_to a b c g h = by (key_cmp b c) refl h
     by Equal e h = sym (ap is_lt (alike_right nat_list_cmp_total b c a e)) ∙ g
     by Greater e h = cc
 
+pub KeyUpTo-trans : (a b c : List ℕ) → KeyUpTo a b → KeyUpTo b c → KeyUpTo a c
+KeyUpTo-trans a b c h g = by (key_cmp a b) refl h
+  where
+    by : (o : Ordering) → key_cmp a b ≡ o → is_le o ≡ true → KeyUpTo a c
+    by Less e h = KeyUpTo-less a c (KeyLess-less_up_to a b c (ap is_lt e) g)
+    by Equal e h = ap is_le (nat_list_cmp_total.congr a b c e) ∙ g
+    by Greater e h = cc
+
 -- two keys of which neither is past the other are one
 pub KeyUpTo-both : (a b : List ℕ) → KeyUpTo a b → KeyUpTo b a → a ≡ b
 KeyUpTo-both a b h g = by (key_cmp a b) refl h
@@ -95,3 +103,15 @@ KeyLess-no_empty (x ∷ xs) h = cc
 
 pub KeyLess-next_key : (a : List ℕ) → KeyLess a (next_key a)
 KeyLess-next_key a = key_lt-next_key a a ∙ KeyUpTo-itself a
+
+-- the next key is not past another exactly where the key is less than that other
+pub key_le-next_key : (a b : List ℕ) → key_le (next_key a) b ≡ key_lt a b
+key_le-next_key a b = key_le-not (next_key a) b ∙ by (key_lt a b) (key_lt-next_key b a ∙ key_le-not b a)
+  where
+    by : (t : Bool) → key_lt b (next_key a) ≡ not t → not (key_lt b (next_key a)) ≡ t
+    by true e = ap not e
+    by false e = ap not e
+
+-- a greater key is not past the next one only where it is the next one
+pub KeyUpTo-next_key : (a b : List ℕ) → KeyLess a b → KeyUpTo b (next_key a) → b ≡ next_key a
+KeyUpTo-next_key a b h g = KeyUpTo-both b (next_key a) g (key_le-next_key a b ∙ h)

@@ -62,4 +62,14 @@ impl Key {
     {
         self.bytes.as_slice()
     }
+
+    /// An equal key.
+    pub(crate) fn copy(&self, alloc: Global) -> Result<Key, Memory>
+        ensures same { IfOk result (λ k. k ≡ self.now) }
+    {
+        match Vec::from_slice(alloc, self.bytes.as_slice()) {
+            Ok(bytes) => Ok(Key { bytes }),
+            Err(_) => Err(Memory),
+        }
+    }
 }

@@ -6,9 +6,11 @@
 #![tactic(auto)]
 
 mod keys;
+mod room;
 mod scopes;
 mod spans;
 
 pub use keys::{Key, KeyFault, Memory};
+pub use room::SpanRoom;
 pub use scopes::Scope;
 pub use spans::{Reversed, Span};
