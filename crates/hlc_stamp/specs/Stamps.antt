@@ -12,8 +12,11 @@ abbrev pub stamp_le : Stamp → Stamp → Bool
 stamp_le a b = nat_lt a.wall b.wall || (a.wall == b.wall && nat_le a.logical b.logical)
 
 -- the stamp (0, 0), which stands for no time
-abbrev pub IsEmpty : Stamp → Type 0
-IsEmpty a = (a.wall ≡ 0) × (a.logical ≡ 0)
+abbrev pub IsEmptyStamp : Stamp → Type 0
+IsEmptyStamp a = (a.wall ≡ 0) × (a.logical ≡ 0)
 
-abbrev pub is_empty : Stamp → Bool
-is_empty a = a.wall == 0 && a.logical == 0
+abbrev pub is_empty_stamp : Stamp → Bool
+is_empty_stamp a = a.wall == 0 && a.logical == 0
+
+abbrev pub empty_stamp : Stamp
+empty_stamp = record { wall = 0; logical = 0 }

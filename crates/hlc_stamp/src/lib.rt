@@ -12,7 +12,7 @@ pub struct Stamp {
 }
 
 impl Stamp {
-    ghost use Rattle.hlc_stamp.specs.Stamps.{is_empty, IsEmpty};
+    ghost use Rattle.hlc_stamp.specs.Stamps.{is_empty_stamp, IsEmptyStamp};
 
     /// The stamp that stands for no time.
     pub const EMPTY: Stamp = Stamp {
@@ -22,8 +22,8 @@ impl Stamp {
 
     /// Whether this is the empty stamp.
     pub fn is_empty(self) -> bool
-        ensures test { result ≡ is_empty self }
-        ensures empty { IsTrue result ↔ IsEmpty self }
+        ensures test { result ≡ is_empty_stamp self }
+        ensures empty { IsTrue result ↔ IsEmptyStamp self }
     {
         self == Stamp::EMPTY
     }

@@ -1,0 +1,4 @@
+pub mod Declaration
+pub mod Latches
+pub mod Histories
+pub mod Legal
