@@ -4,4 +4,5 @@
 
 pub mod history;
 pub mod latch;
+pub mod laws;
 pub mod request;
