@@ -4,3 +4,4 @@ pub mod Begins
 pub mod Growing
 pub mod Holding
 pub mod Exclusion
+pub mod Passing

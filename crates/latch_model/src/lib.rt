@@ -5,4 +5,5 @@
 pub mod history;
 pub mod latch;
 pub mod laws;
+pub mod prerequisites;
 pub mod request;
