@@ -3,7 +3,7 @@ use Rattle.std.proofs.Common.{◌≡◌, ℕ, zero, suc, get_or, ◌+◌, ◌-�
 use Rattle.std.proofs.lemmas.Bool.{eqb-true, eq-eqb}
 use Rattle.std.proofs.lemmas.List.{append-nil, drop_more, get_or-map, length-map, map-append, take-map, drop-map}
 use Rattle.std.proofs.lemmas.List.Elements.{filter-append, filter_map-append}
-use Rattle.std.proofs.lemmas.List.Sums.{prefix_len-le-length}
+use Rattle.std.proofs.lemmas.List.Sums.{length-filter, prefix_len-le-length}
 use Rattle.std.proofs.lemmas.List.Folds.{find_at}
 use Rattle.std.proofs.lemmas.Option.{slice_get-get_or}
 use Rattle.std.proofs.lemmas.List.Quantifiers.{position-Some}
@@ -150,7 +150,7 @@ found_within p (x ∷ xs) some = by (p x) some (λ g. found_within p xs g)
     by false g rest = let r = rest g in omega arith
 
 pub begun_once_within : (h : List Entry) (k : ℕ) → IsBegunOnce h k → position_or_len (is_begin k) h < length h
-begun_once_within h k once = found_within (is_begin k) h (omega arith)
+begun_once_within h k once = found_within (is_begin k) h (let e = length-filter (is_begin k) h in omega arith)
 
 -- the latches of a request whose begin is the entry at its place
 pub latches_of_entry : (h : List Entry) (k place : ℕ) (e : Entry) (b : Begin) → place ≡ position_or_len (is_begin k) h → slice_get h place ≡ Some e → begin_of e ≡ Some b → latches_of h k ≡ b.request.latches

@@ -1,6 +1,6 @@
 -- Histories: what is open and held at a moment, what a request had to wait for, and in which order.
 use Rattle.std.specs.Prelude.{◌≡◌, ℕ, Bool, true, false, not, ◌&&◌, ◌==◌, nat_lt, if◌then◌else◌, List, [], ◌∷◌, ◌++◌, map, length, Option, Some, None}
-use Rattle.std.specs.List.{list_any, filter, filter_map, flat_map, find, take_while, enumerate_from}
+use Rattle.std.specs.List.{count_by, list_any, filter, filter_map, flat_map, find, take_while, enumerate_from}
 use Rattle.std.specs.Option.{option_map_or}
 use Rattle.std.specs.Ordering.{nat_cmp}
 use Rattle.std.specs.Cmp.Lexicographic.{slice_cmp}
@@ -67,7 +67,7 @@ still_open h es = filter (λ b. not (has_ended h b.id)) (begins es)
 
 -- A number that was begun, and once.
 abbrev pub IsBegunOnce : List Entry → ℕ → Type 0
-IsBegunOnce h k = length (filter (is_begin k) h) ≡ 1
+IsBegunOnce h k = count_by (is_begin k) h ≡ 1
 
 -- Requests that were acquired or are optimistic hold their latches; looks hold nothing.
 abbrev pub holds_latches : Mode → Bool

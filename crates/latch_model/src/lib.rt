@@ -8,3 +8,5 @@ pub mod laws;
 pub mod legality;
 pub mod prerequisites;
 pub mod request;
+#[cfg(test)]
+mod tests;

@@ -1,7 +1,7 @@
 // The prerequisites of a request: those that held a conflicting latch in front of its begin. One pass over these entries keeps
 // the open requests, so the work grows with the entries times what is open.
-ghost use Rattle.std.specs.Prelude.{◌≡◌, ◌<◌, ◌≤◌, ◌&&◌, not, ℕ, List, [], ◌∷◌, ◌++◌, map, length, position, slice_get, Some, IfOk, IfSome, OnOk, IsTrue};
-ghost use Rattle.std.specs.List.{Any, position_or_len, Contains, list_any};
+ghost use Rattle.std.specs.Prelude.{◌≡◌, ◌↔◌, ◌<◌, ◌≤◌, ◌&&◌, not, ℕ, List, [], ◌∷◌, ◌++◌, map, length, position, slice_get, Some, IfOk, IfSome, OnOk, IsTrue};
+ghost use Rattle.std.specs.List.{Any, count_by, position_or_len, Contains, list_any};
 ghost use Rattle.latch_model.specs.Histories.{Begin, IsBegunOnce, before, begins, begin_of, has_ended, holds_latches, in_conflict, is_begin, is_end, open_begins, still_open, with_number};
 ghost use Rattle.latch_model.specs.Latches.{Conflict, conflict, some_conflict};
 ghost use Rattle.latch_model.specs.declared.history.Entry.{Entry};
@@ -36,6 +36,13 @@ pub fn before(alloc: Global, entries: &[Entry], id: u64) -> Result<Vec<u64>, Mem
             fault: _,
         } => Ok(Vec::new(alloc)),
     }
+}
+
+/// Whether the request of this number has begun exactly once in these entries.
+pub fn is_begun_once(entries: &[Entry], id: u64) -> bool
+    ensures { IsTrue result ↔ IsBegunOnce entries.now id }
+{
+    count_begins(entries, id) == 1
 }
 
 /// Whether some latch of the one list conflicts with some latch of the other.
@@ -115,6 +122,12 @@ fn place_of(entries: &[Entry], id: u64) -> usize
     ensures { result ≡ position_or_len (is_begin id) entries.now }
 {
     find_begin(entries, id).unwrap_or(entries.len())
+}
+
+fn count_begins(entries: &[Entry], id: u64) -> usize
+    ensures { result ≡ count_by (is_begin id) entries.now }
+{
+    entries.iter().filter(|entry| begins(entry, id)).count()
 }
 
 fn find_begin(entries: &[Entry], id: u64) -> Option<usize>
