@@ -1,10 +1,10 @@
 -- The order of upper bounds: it is total, and a span whose bound is not the greater reaches no further.
-use Rattle.std.proofs.Common.{◌≡◌, ℕ, Bool, true, false, List, [], ◌∷◌, refl, sym, ◌∙◌, ap, subst, Ordering, IsTrue}
+use Rattle.std.proofs.Common.{◌≡◌, ℕ, true, false, List, [], ◌∷◌, refl, ◌∙◌, ap, Ordering, IsTrue}
 use Rattle.std.specs.declared.cmp.Ordering.TheVariants.{Less, Equal, Greater}
 use Rattle.std.specs.Cmp.{IsTotalOrder, bool_cmp_total}
 use Rattle.std.specs.Ordering.{is_le, is_lt, ordering_then, bool_cmp}
 use Rattle.std.proofs.lemmas.Cmp.{nat_list_cmp_total, on_total, then_total}
-use Rattle.span_key.specs.Spans.{Pair, KeyLess, KeyUpTo, IsIn, key_cmp, key_le, next_key, past, bound_of, bound_cmp, is_point}
+use Rattle.span_key.specs.Spans.{Pair, KeyLess, KeyUpTo, IsIn, key_cmp, next_key, past, bound_of, bound_cmp, is_point}
 use Rattle.span_key.proofs.KeyOrder.{key_le-next_key, key_lt-next_key, KeyLess-next_key, KeyUpTo-less, KeyUpTo-trans, KeyLess-less_up_to}
 use Rattle.span_key.proofs.SpanLaws.{in_bounds}
 
