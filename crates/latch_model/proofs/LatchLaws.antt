@@ -1,10 +1,10 @@
 -- What the tests on latches answer.
-use Rattle.std.proofs.Common.{◌≡◌, ℕ, ◌↔◌, ◌⊎◌, IsTrue, Bool, true, false, ◌&&◌, ◌||◌, ◌==◌, inl, inr, refl, sym, ◌∙◌, ap, subst, arith}
+use Rattle.std.proofs.Common.{◌≡◌, ℕ, ◌↔◌, ◌⊎◌, IsTrue, Bool, true, false, ◌&&◌, ◌||◌, inl, inr, refl, sym, ◌∙◌, ap, arith}
 use Rattle.std.proofs.lemmas.Bool.Decides.{nat_tests}
 use Rattle.hlc_stamp.specs.declared.Stamp.{Stamp}
 use Rattle.hlc_stamp.specs.Stamps.{IsEmptyStamp, StampUpTo, is_empty_stamp, stamp_le}
 use Rattle.hlc_stamp.proofs.StampLaws.{is_empty_is, stamp_le_is}
-use Rattle.span_key.specs.Spans.{IsSpan, LiesIn, Overlap, lies_in, overlap}
+use Rattle.span_key.specs.Spans.{LiesIn, Overlap, lies_in, overlap}
 use Rattle.latch_model.specs.Latches.{Conflict, Interfere, LiesInLatch, conflict, interfere, lies_in_latch, local, normal, same, same_stamp, writes}
 use Rattle.latch_model.specs.declared.latch.Access.{Access}
 use Rattle.latch_model.specs.declared.latch.Access.TheVariants.{Read, Write}

@@ -1,6 +1,6 @@
 -- Histories: what is open and held at a moment, what a request had to wait for, and in which order.
-use Rattle.std.specs.Prelude.{◌≡◌, ℕ, ◌+◌, Bool, true, false, not, ◌&&◌, ◌||◌, ◌==◌, nat_lt, if◌then◌else◌, List, [], ◌∷◌, ◌++◌, map, length, take, Option, Some, None}
-use Rattle.std.specs.List.{list_any, list_all, filter, filter_map, flat_map, find, take_while, enumerate_from}
+use Rattle.std.specs.Prelude.{◌≡◌, ℕ, Bool, true, false, not, ◌&&◌, ◌==◌, nat_lt, if◌then◌else◌, List, [], ◌∷◌, ◌++◌, map, length, Option, Some, None}
+use Rattle.std.specs.List.{list_any, filter, filter_map, flat_map, find, take_while, enumerate_from}
 use Rattle.std.specs.Option.{option_map_or}
 use Rattle.std.specs.Ordering.{nat_cmp}
 use Rattle.std.specs.Cmp.Lexicographic.{slice_cmp}
@@ -57,6 +57,14 @@ is_open h k = has_begun h k && not (has_ended h k)
 abbrev pub open_begins : List Entry → List Begin
 open_begins h = filter (λ b. not (has_ended h b.id)) (begins h)
 
+-- Of these entries, the begins of the requests that have no end in history h.
+abbrev pub still_open : List Entry → List Entry → List Begin
+still_open h es = filter (λ b. not (has_ended h b.id)) (begins es)
+
+-- A number that was begun, and once.
+abbrev pub IsBegunOnce : List Entry → ℕ → Type 0
+IsBegunOnce h k = length (filter (is_begin k) h) ≡ 1
+
 -- Requests that were acquired or are optimistic hold their latches; looks hold nothing.
 abbrev pub holds_latches : Mode → Bool
 holds_latches Acquire = true
@@ -99,6 +107,10 @@ ascending (n ∷ ns) = with_number n (ascending ns)
 -- with one of its own.
 abbrev pub before : List Entry → ℕ → List ℕ
 before h k = ascending (map (λ b. b.id) (filter (λ b. some_conflict (latches_of h k) b.request.latches) (held (in_front h k))))
+
+-- The same of a list of begins: the numbers, ascending, of those that hold latches, one of which conflicts with one of these.
+abbrev pub in_conflict : List Latch → List Begin → List ℕ
+in_conflict ls bs = ascending (map (λ b. b.id) (filter (λ b. some_conflict ls b.request.latches) (filter (λ b. holds_latches b.mode) bs)))
 
 -- A held latch: whose it is, in which lane that request runs, the latch's place in the request, from 0, and the latch itself.
 pub record HeldLatch : Type 0 where

@@ -1,5 +1,5 @@
 -- Latches: their scope and normal stamp, when two of them conflict, and when one lies in another.
-use Rattle.std.specs.Prelude.{◌≡◌, ℕ, Bool, true, false, not, ◌&&◌, ◌||◌, ◌==◌, ◌⊎◌, if◌then◌else◌, List, [], ◌∷◌}
+use Rattle.std.specs.Prelude.{◌≡◌, Bool, true, false, not, ◌&&◌, ◌||◌, ◌==◌, ◌⊎◌, if◌then◌else◌, List}
 use Rattle.std.specs.List.{list_any}
 use Rattle.span_key.specs.Spans.{Overlap, overlap, LiesIn, lies_in, is_local}
 use Rattle.span_key.specs.declared.scopes.Scope.{Scope}

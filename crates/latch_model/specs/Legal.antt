@@ -1,13 +1,11 @@
 -- Legal histories, what a request holds at a moment, and exclusion.
 -- Places of entries count from 0. Moment n is after the first n entries.
-use Rattle.std.specs.Prelude.{◌≡◌, ◌≢◌, ℕ, ◌+◌, ◌<◌, ◌≤◌, IsTrue, List, [], ◌∷◌, ◌++◌, map, length, take, slice_get, Option, Some, None, ◌⊎◌}
+use Rattle.std.specs.Prelude.{◌≡◌, ◌≢◌, ℕ, ◌+◌, ◌<◌, ◌≤◌, IsTrue, List, [], ◌∷◌, ◌++◌, length, take, slice_get, Some, ◌⊎◌}
 use Rattle.std.specs.List.{All, Any, Contains}
 use Rattle.latch_model.specs.Latches.{Conflict, LiesInLatch}
-use Rattle.latch_model.specs.Histories.{Begin, begin_with, begins, before, free_lane, has_begun, has_ended, held, holds_latches, in_front, is_open, latches_held, latches_of, HeldLatch}
+use Rattle.latch_model.specs.Histories.{Begin, begin_with, begins, before, free_lane, has_ended, holds_latches, in_front, is_open, latches_held, latches_of, HeldLatch}
 use Rattle.latch_model.specs.declared.latch.Latch.{Latch}
-use Rattle.latch_model.specs.declared.latch.Mode.{Mode}
-use Rattle.latch_model.specs.declared.latch.Mode.TheVariants.{Acquire, Optimistic, Look}
-use Rattle.latch_model.specs.declared.latch.Policy.{Policy}
+use Rattle.latch_model.specs.declared.latch.Mode.TheVariants.{Optimistic}
 use Rattle.latch_model.specs.declared.latch.Policy.TheVariants.{Wait, Error}
 use Rattle.latch_model.specs.declared.history.Cause.{Cause}
 use Rattle.latch_model.specs.declared.history.Cause.TheVariants.{None as no_cause, Called, From}

@@ -4,4 +4,6 @@
 
 pub mod history;
 pub mod latch;
+pub mod laws;
+pub mod prerequisites;
 pub mod request;
