@@ -5,15 +5,11 @@ use Rattle.std.proofs.lemmas.List.Folds.{find_at, length-prefix_len}
 use Rattle.std.proofs.lemmas.Option.{slice_get_within}
 use Rattle.std.specs.List.{find, slice_get, position_or_len}
 use Rattle.std.specs.Option.{option_and_then}
-use Rattle.latch_model.specs.Histories.{Begin, begin_of, begin_with, begins, in_front, is_begin}
+use Rattle.latch_model.specs.Histories.{Begin, begin_of, begin_with, begins, entry_of, in_front, is_begin}
 use Rattle.latch_model.specs.Legal.{place_of}
 use Rattle.latch_model.specs.declared.history.Entry.{Entry}
 use Rattle.latch_model.specs.declared.history.Entry.TheVariants.{Begun, Ended}
 use Rattle.latch_model.proofs.Lists.{In, In-take, In-filter_map, find_passes}
-
--- the entry of a begin
-abbrev pub entry_of : Begin → Entry
-entry_of b = Begun b.id b.lane b.who b.mode b.request
 
 -- an entry that has a begin is the entry of that begin
 pub entry_of_begin : (e : Entry) (b : Begin) → begin_of e ≡ Some b → e ≡ entry_of b

@@ -79,7 +79,7 @@ held_in_front h a b n l w first upto = subst (λ (front : List Entry). In w.begi
     there : In w.begin (held front)
     there = In-filter (λ (x : Begin). holds_latches x.mode) (open_begins front) w.begin opened w.holds
 
-In-with_number : (k n : ℕ) (ns : List ℕ) → (n ≡ k) ⊎ In k ns → In k (with_number n ns)
+pub In-with_number : (k n : ℕ) (ns : List ℕ) → (n ≡ k) ⊎ In k ns → In k (with_number n ns)
 In-with_number k n [] h = h
 In-with_number k n (m ∷ ms) h = by (nat_lt n m) (n == m) refl h (λ g. In-with_number k n ms g)
   where
@@ -92,7 +92,7 @@ In-with_number k n (m ∷ ms) h = by (nat_lt n m) (n == m) refl h (λ g. In-with
     by false false e (inr (inl same)) rest = inl same
     by false false e (inr (inr there)) rest = inr (rest (inr there))
 
-In-ascending : (k : ℕ) (ns : List ℕ) → In k ns → In k (ascending ns)
+pub In-ascending : (k : ℕ) (ns : List ℕ) → In k ns → In k (ascending ns)
 In-ascending k [] h = absurd h
 In-ascending k (n ∷ ns) (inl e) = In-with_number k n (ascending ns) (inl e)
 In-ascending k (n ∷ ns) (inr h) = In-with_number k n (ascending ns) (inr (In-ascending k ns h))

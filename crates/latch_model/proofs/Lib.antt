@@ -5,3 +5,12 @@ pub mod Growing
 pub mod Holding
 pub mod Exclusion
 pub mod Passing
+pub mod Members
+pub mod Ordered
+pub mod Lanes
+pub mod Counting
+pub mod Looking
+pub mod Scan
+pub mod Weights
+pub mod Sentences
+pub mod Ends

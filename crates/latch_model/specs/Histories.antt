@@ -34,6 +34,10 @@ begin_of (Ended id who grant poison fault) = None
 abbrev pub begins : List Entry → List Begin
 begins h = filter_map begin_of h
 
+-- the entry of a begin
+abbrev pub entry_of : Begin → Entry
+entry_of b = Begun b.id b.lane b.who b.mode b.request
+
 -- whether an entry is the begin of a request, and its end
 abbrev pub is_begin : ℕ → Entry → Bool
 is_begin k (Begun id lane who mode request) = id == k

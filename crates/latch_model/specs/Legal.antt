@@ -77,6 +77,10 @@ IsLegalAt h sizes n (Ended id who grant poison fault) = IsLegalEnd h n id who gr
 abbrev pub IsLegal : List Entry → Sizes → Type 0
 IsLegal h sizes = (n : ℕ) (e : Entry) → slice_get h n ≡ Some e → IsLegalAt h sizes n e
 
+-- The first n entries of a history are legal.
+abbrev pub IsLegalBelow : List Entry → Sizes → ℕ → Type 0
+IsLegalBelow h sizes n = (k : ℕ) (e : Entry) → k < n → slice_get h k ≡ Some e → IsLegalAt h sizes k e
+
 -- What a request with a grant holds from its grant on, looks aside: its latches from the front at which it was granted, and what an
 -- optimistic one has checked from its begin.
 abbrev pub HoldsBy : List Entry → ℕ → Grant → ℕ → Latch → Type 0

@@ -5,5 +5,6 @@
 pub mod history;
 pub mod latch;
 pub mod laws;
+pub mod legality;
 pub mod prerequisites;
 pub mod request;

@@ -1,9 +1,9 @@
 // The prerequisites of a request: those that held a conflicting latch in front of its begin. One pass over these entries keeps
 // the open requests, so the work grows with the entries times what is open.
 ghost use Rattle.std.specs.Prelude.{◌≡◌, ◌<◌, ◌≤◌, ◌&&◌, not, ℕ, List, [], ◌∷◌, ◌++◌, map, length, position, slice_get, Some, IfOk, IfSome, OnOk, IsTrue};
-ghost use Rattle.std.specs.List.{position_or_len, Contains, list_any};
+ghost use Rattle.std.specs.List.{Any, position_or_len, Contains, list_any};
 ghost use Rattle.latch_model.specs.Histories.{Begin, IsBegunOnce, before, begins, begin_of, has_ended, holds_latches, in_conflict, is_begin, is_end, open_begins, still_open, with_number};
-ghost use Rattle.latch_model.specs.Latches.{conflict, some_conflict};
+ghost use Rattle.latch_model.specs.Latches.{Conflict, conflict, some_conflict};
 ghost use Rattle.latch_model.specs.declared.history.Entry.{Entry};
 
 use crate::history::Entry;
@@ -40,7 +40,8 @@ pub fn before(alloc: Global, entries: &[Entry], id: u64) -> Result<Vec<u64>, Mem
 
 /// Whether some latch of the one list conflicts with some latch of the other.
 pub fn some_conflict(latches: &[Latch], others: &[Latch]) -> bool
-    ensures { result ≡ some_conflict latches.now others.now }
+    ensures test { result ≡ some_conflict latches.now others.now }
+    ensures fact { IsTrue result → Any (λ l. Any (Conflict l) others.now) latches.now }
 {
     latches
         .iter()
@@ -123,7 +124,8 @@ fn find_begin(entries: &[Entry], id: u64) -> Option<usize>
 }
 
 fn conflicts_with_some(latch: &Latch, others: &[Latch]) -> bool
-    ensures { result ≡ list_any (conflict latch.now) others.now }
+    ensures test { result ≡ list_any (conflict latch.now) others.now }
+    ensures fact { IsTrue result → Any (Conflict latch.now) others.now }
 {
     others.iter().any(|other| conflicts(latch, other))
 }
