@@ -6,7 +6,7 @@ use Rattle.std.proofs.lemmas.Bool.Decides.{nat_tests}
 use Rattle.std.proofs.lemmas.Str.{IsUtf8-from_ascii}
 use Rattle.std.proofs.lemmas.Str.Ascii.{IsAscii-nil, IsAscii-cons}
 use Rattle.script.specs.Scripts.{is_letter, is_name_byte, is_name}
-use Rattle.script.proofs.Tests.{and_parts}
+use Rattle.script.proofs.Choices.{and_parts}
 
 letter_low : (c : ℕ) → is_letter c ≡ true → c < 128
 letter_low c e = grind (arith, nat_tests)

@@ -8,7 +8,7 @@ use Rattle.std.proofs.lemmas.Slice.Eq.{bytes_eq-Decides}
 use Rattle.script.specs.Commands.{same_name}
 use Rattle.script.specs.Names.{Sessions, open_in, waits, ended}
 use Rattle.script.specs.declared.draft.Opened.{Opened}
-use Rattle.script.proofs.Tests.{and_both, and_parts, chosen, false-true}
+use Rattle.script.proofs.Choices.{and_both, and_parts, chosen, false-true}
 
 pub same_is : (a b : List ℕ) → same_name a b ≡ true → a ≡ b
 same_is a b e = (bytes_eq-Decides a b).0 e

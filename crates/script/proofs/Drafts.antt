@@ -11,7 +11,7 @@ use Rattle.script.specs.declared.command.Command.{Command}
 use Rattle.script.specs.declared.command.Command.TheVariants.{Begin, Wait, Check, Poison, Release, Metrics}
 use Rattle.script.specs.declared.draft.Draft.{Draft}
 use Rattle.script.specs.declared.draft.Opened.{Opened}
-use Rattle.script.proofs.Tests.{or_left, or_right, or_cases, and_both, and_parts, false-true}
+use Rattle.script.proofs.Choices.{or_left, or_right, or_cases, and_both, and_parts, false-true}
 use Rattle.script.proofs.Busy.{same_is, same_self}
 
 -- ---- no commands

@@ -13,7 +13,7 @@ use Rattle.script.specs.Names.{Tracks, used_in, owned_by, optimistic_in, waited_
 use Rattle.script.specs.declared.command.Command.{Command}
 use Rattle.script.specs.declared.command.Command.TheVariants.{Begin, Wait, Check, Poison, Release, Metrics}
 use Rattle.script.specs.declared.draft.Opened.{Opened}
-use Rattle.script.proofs.Tests.{or_no, or_right, and_no, and_true}
+use Rattle.script.proofs.Choices.{or_no, or_right, and_no, and_true}
 
 -- how what is kept of the name q changes with one command
 pub record Moves (old new : Option Opened) (c : Command) (q : List ℕ) : Type 0 where

@@ -13,4 +13,3 @@ pub mod Printed
 pub mod Parts
 pub mod Walk
 pub mod Scripts
-pub mod Readers

@@ -1,7 +1,7 @@
 pub mod Parts
 pub mod Numbers
 pub mod Loop
-pub mod Tests
+pub mod Choices
 pub mod Kept
 pub mod Ascii
 pub mod Busy

@@ -14,7 +14,7 @@ use Rattle.script.specs.declared.draft.Opened.{Opened}
 use Rattle.script.proofs.Busy.{same_is, open_sessions, wait_sessions, end_sessions, session_low}
 use Rattle.script.proofs.Drafts.{used_is, live_is, busy_is}
 use Rattle.script.proofs.Kept.{Moves, track, begin_moves, wait_moves, release_moves}
-use Rattle.script.proofs.Tests.{and_parts, false-true}
+use Rattle.script.proofs.Choices.{and_parts, false-true}
 
 pub on_both : {T E A B C : Type 0} (r : Result T E) → (A → B → C) → OnOk r A → OnOk r B → OnOk r C
 on_both (Ok x) f a b = f a b

@@ -16,7 +16,7 @@ use Rattle.script.specs.declared.fault.ReadScript.{ReadScript}
 use Rattle.std.proofs.lemmas.Bool.{le-ltb}
 use Rattle.script.proofs.Laws.Steps.{ok_is}
 use Rattle.script.proofs.Parts.{one_part, first_part}
-use Rattle.script.proofs.Tests.{false-true}
+use Rattle.script.proofs.Choices.{false-true}
 
 first_onto : (x : ℕ) (parts : List (List ℕ)) → (p : List ℕ) × (ps : List (List ℕ)) × (onto_first x parts ≡ p ∷ ps)
 first_onto x [] = (x ∷ [], [], refl)

@@ -13,3 +13,6 @@ mod text;
 pub use field::read_latch;
 pub use read::read_script;
 pub use text::put_latch;
+
+#[cfg(test)]
+mod tests;

@@ -45,8 +45,8 @@ holding_is h ns =
     ∙ filter_agree (λ (n : Named). is_going n && holds_latches n.mode) (λ (n : Named). holds_now (kept_of h n))
     (λ n. and_comm (is_going n) (holds_latches n.mode) ∙ ap (λ b. holds_latches n.mode && not b) (sym (over_stage_is n.phase))) ns
 
-held_briefs : (e b c : ℕ) (h : List Entry) (ns : List Named) → Valid e b c h ns → map brief (held h) ≡ map (brief_of h) (holding h ns)
-held_briefs e b c h ns v =
+held_briefs : (h : List Entry) (ns : List Named) → Valid h ns → map brief (held h) ≡ map (brief_of h) (holding h ns)
+held_briefs h ns v =
     sym (filter-map brief (λ (r : Brief). holds_latches r.mode) (open_begins h))
     ∙ ap (λ rs. filter (λ (r : Brief). holds_latches r.mode) rs) v.going
     ∙ filter-map (brief_of h) (λ (r : Brief). holds_latches r.mode) (filter is_going ns)
@@ -57,22 +57,22 @@ placed_is : (by lane n : ℕ) (ls : List Latch) → map unlaned (map (λ (p : �
 placed_is by lane n [] = refl
 placed_is by lane n (l ∷ ls) = ap (λ xs. (record { by = by; lane = 0; place = n; latch = l }) ∷ xs) (placed_is by lane (n + 1) ls)
 
-pub held_same : (e b c : ℕ) (h : List Entry) (ns : List Named) → Valid e b c h ns → map unlaned (latches_held h) ≡ held_now (map (kept_of h) ns)
-held_same e b c h ns v =
+pub held_same : (h : List Entry) (ns : List Named) → Valid h ns → map unlaned (latches_held h) ≡ held_now (map (kept_of h) ns)
+held_same h ns v =
     map-flat_map latches_held_by unlaned (held h)
     ∙ flat_map_agree (λ (x : Begin). map unlaned (latches_held_by x)) (λ (x : Begin). placed x.id 0 x.request.latches) (λ x. placed_is x.id x.lane 0 x.request.latches) (held h)
     ∙ sym (flat_map-map brief (λ (r : Brief). placed r.id 0 r.latches) (held h))
-    ∙ ap (λ rs. flat_map (λ (r : Brief). placed r.id 0 r.latches) rs) (held_briefs e b c h ns v)
+    ∙ ap (λ rs. flat_map (λ (r : Brief). placed r.id 0 r.latches) rs) (held_briefs h ns v)
     ∙ flat_map-map (brief_of h) (λ (r : Brief). placed r.id 0 r.latches) (holding h ns)
     ∙ sym (flat_map-map (kept_of h) (λ (n : Kept). placed n.id 0 n.latches) (holding h ns))
     ∙ ap (λ ks. flat_map (λ (n : Kept). placed n.id 0 n.latches) ks) (sym (filter-map (kept_of h) holds_now ns))
 
 -- prerequisites
-pub prerequisites_same : (e b c : ℕ) (h : List Entry) (ns : List Named) (ls : List Latch) → Valid e b c h ns → map (λ (x : Begin). x.id) (filter (λ (x : Begin). some_conflict ls x.request.latches) (held h)) ≡ prerequisites (map (kept_of h) ns) ls
-prerequisites_same e b c h ns ls v =
+pub prerequisites_same : (h : List Entry) (ns : List Named) (ls : List Latch) → Valid h ns → map (λ (x : Begin). x.id) (filter (λ (x : Begin). some_conflict ls x.request.latches) (held h)) ≡ prerequisites (map (kept_of h) ns) ls
+prerequisites_same h ns ls v =
     let p : Brief → Bool = λ r. some_conflict ls r.latches in
     sym (map-map brief (λ (r : Brief). r.id) (filter (λ (x : Begin). some_conflict ls x.request.latches) (held h)))
-    ∙ ap (λ rs. map (λ (r : Brief). r.id) rs) (sym (filter-map brief p (held h)) ∙ ap (λ rs. filter p rs) (held_briefs e b c h ns v) ∙ filter-map (brief_of h) p (holding h ns))
+    ∙ ap (λ rs. map (λ (r : Brief). r.id) rs) (sym (filter-map brief p (held h)) ∙ ap (λ rs. filter p rs) (held_briefs h ns v) ∙ filter-map (brief_of h) p (holding h ns))
     ∙ map-map (brief_of h) (λ (r : Brief). r.id) (filter (λ (n : Named). some_conflict ls (latches_of h n.id)) (holding h ns))
     ∙ ap (λ ms. map (λ (n : Named). n.id) ms) (filter-filter (λ (n : Named). some_conflict ls (latches_of h n.id)) (λ n. holds_now (kept_of h n)) ns)
     ∙ sym (map-map (kept_of h) (λ (k : Kept). k.id) (filter (λ n. holds_now (kept_of h n) && some_conflict ls (latches_of h n.id)) ns))
@@ -105,9 +105,9 @@ ascending_same (n ∷ ns) r = ap (λ ms. with_number n ms) (ascending_same ns r.
 rising_kept : (h : List Entry) (ns : List Named) → Rising (map (λ (n : Named). n.id) ns) → Rising (map (λ (k : Kept). k.id) (map (kept_of h) ns))
 rising_kept h ns r = subst Rising (sym (map-map (kept_of h) (λ (k : Kept). k.id) ns)) r
 
-pub before_same : (e b c : ℕ) (h : List Entry) (ns : List Named) (ls : List Latch) → Valid e b c h ns → ascending (map (λ (x : Begin). x.id) (filter (λ (x : Begin). some_conflict ls x.request.latches) (held h))) ≡ prerequisites (map (kept_of h) ns) ls
-before_same e b c h ns ls v =
-    ap ascending (prerequisites_same e b c h ns ls v)
+pub before_same : (h : List Entry) (ns : List Named) (ls : List Latch) → Valid h ns → ascending (map (λ (x : Begin). x.id) (filter (λ (x : Begin). some_conflict ls x.request.latches) (held h))) ≡ prerequisites (map (kept_of h) ns) ls
+before_same h ns ls v =
+    ap ascending (prerequisites_same h ns ls v)
     ∙ ascending_same (prerequisites (map (kept_of h) ns) ls)
     (rising_some (λ (k : Kept). k.id) (λ (k : Kept). holds_now k && some_conflict ls k.latches) (map (kept_of h) ns) (rising_kept h ns v.rising))
 
@@ -116,8 +116,8 @@ open_names : (j : ℕ) (ns : List Named) → Each (λ (n : Named). ((n.id == j) 
 open_names j [] = tt
 open_names j (n ∷ ns) = (ap (λ b. (n.id == j) && not b) (over_stage_is n.phase), open_names j ns)
 
-pub open_same : (e b c : ℕ) (h : List Entry) (ns : List Named) (j : ℕ) → Valid e b c h ns → is_open_among (map (kept_of h) ns) j ≡ (has_begun h j && not (has_ended h j))
-open_same e b c h ns j v =
+pub open_same : (h : List Entry) (ns : List Named) (j : ℕ) → Valid h ns → is_open_among (map (kept_of h) ns) j ≡ (has_begun h j && not (has_ended h j))
+open_same h ns j v =
     list_any-map (kept_of h) (λ (k : Kept). (k.id == j) && is_open_now k) ns
     ∙ list_any_agree (λ (n : Named). (n.id == j) && not (is_over_stage (stage_of n.phase))) (λ (n : Named). (n.id == j) && is_going n) ns (open_names j ns)
     ∙ sym (list_any-filter (λ (n : Named). n.id == j) is_going ns)
@@ -175,12 +175,12 @@ first_waiting_agree q r xs ls e =
     let d : first_met q xs (those_of Local Write ls) ≡ first_met r xs (those_of Local Write ls) = part Local Write in
     cc
 
-pub blocker_same : (e b c : ℕ) (h : List Entry) (ns : List Named) (n : Named) → Valid e b c h ns → option_map unlaned (head (filter (λ (x : HeldLatch). not (has_ended h x.by)) (met h n.id (latches_of h n.id)))) ≡ blocker (kept_of h n) (map (kept_of h) ns)
-blocker_same e b c h ns n v =
+pub blocker_same : (h : List Entry) (ns : List Named) (n : Named) → Valid h ns → option_map unlaned (head (filter (λ (x : HeldLatch). not (has_ended h x.by)) (met h n.id (latches_of h n.id)))) ≡ blocker (kept_of h n) (map (kept_of h) ns)
+blocker_same h ns n v =
     meeting h n.id (λ j. not (has_ended h j)) (latches_of h n.id) (captured_own (latches_of h n.id))
     ∙ first_waiting_agree (λ (x : HeldLatch). not (has_ended h x.by)) (λ (x : HeldLatch). is_open_among (map (kept_of h) ns) x.by) (map unlaned (latches_held (in_front h n.id))) (latches_of h n.id)
     (Each-map (λ (x : HeldLatch). has_begun h x.by ≡ true) (λ (x : HeldLatch). not (has_ended h x.by) ≡ is_open_among (map (kept_of h) ns) x.by)
-    (λ x t. sym (open_same e b c h ns x.by v ∙ ap (λ b. b && not (has_ended h x.by)) t)) (map unlaned (latches_held (in_front h n.id))) (front_begun h n.id))
+    (λ x t. sym (open_same h ns x.by v ∙ ap (λ b. b && not (has_ended h x.by)) t)) (map unlaned (latches_held (in_front h n.id))) (front_begun h n.id))
 
 -- counts
 sum_by-map : {X Y : Type 0} (f : Y → ℕ) (g : X → Y) (xs : List X) → sum_by f (map g xs) ≡ sum_by (λ x. f (g x)) xs
@@ -195,11 +195,11 @@ among_is h =
 abbrev counted_in : Scope → Access → List Latch → ℕ
 counted_in scope access ls = count_by (λ l. in_scope scope l && has_access access l) ls
 
-count_briefs : (e b c : ℕ) (h : List Entry) (ns : List Named) (scope : Scope) (access : Access) (p : ℕ → Bool) → Valid e b c h ns → count_latches scope access (filter (λ (x : Begin). p x.id) (held h)) ≡ count_now scope access (filter (λ (k : Kept). holds_now k && p k.id) (map (kept_of h) ns))
-count_briefs e b c h ns scope access p v =
+count_briefs : (h : List Entry) (ns : List Named) (scope : Scope) (access : Access) (p : ℕ → Bool) → Valid h ns → count_latches scope access (filter (λ (x : Begin). p x.id) (held h)) ≡ count_now scope access (filter (λ (k : Kept). holds_now k && p k.id) (map (kept_of h) ns))
+count_briefs h ns scope access p v =
     sym (sum_by-map (λ (r : Brief). counted_in scope access r.latches) brief (filter (λ (x : Begin). p x.id) (held h)))
     ∙ ap (λ rs. sum_by (λ (r : Brief). counted_in scope access r.latches) rs)
-    (sym (filter-map brief (λ (r : Brief). p r.id) (held h)) ∙ ap (λ rs. filter (λ (r : Brief). p r.id) rs) (held_briefs e b c h ns v) ∙ filter-map (brief_of h) (λ (r : Brief). p r.id) (holding h ns))
+    (sym (filter-map brief (λ (r : Brief). p r.id) (held h)) ∙ ap (λ rs. filter (λ (r : Brief). p r.id) rs) (held_briefs h ns v) ∙ filter-map (brief_of h) (λ (r : Brief). p r.id) (holding h ns))
     ∙ sum_by-map (λ (r : Brief). counted_in scope access r.latches) (brief_of h) (filter (λ (n : Named). p n.id) (holding h ns))
     ∙ ap (λ ms. sum_by (λ (n : Named). counted_in scope access (latches_of h n.id)) ms) (filter-filter (λ (n : Named). p n.id) (λ n. holds_now (kept_of h n)) ns)
     ∙ sym (sum_by-map (λ (k : Kept). counted_in scope access k.latches) (kept_of h) (filter (λ n. holds_now (kept_of h n) && p n.id) ns))
@@ -209,10 +209,10 @@ filter_low : (bs : List Begin) → filter (λ (x : Begin). nat_le 0 x.id) bs ≡
 filter_low [] = refl
 filter_low (b ∷ bs) = filter_yes (λ (x : Begin). nat_le 0 x.id) b bs (le-leb 0 b.id (omega arith)) ∙ ap (λ us. b ∷ us) (filter_low bs)
 
-pub count_same : (e b c : ℕ) (h : List Entry) (ns : List Named) (scope : Scope) (access : Access) → Valid e b c h ns → count_latches scope access (held_among h (begins h)) ≡ count_now scope access (held_from 0 (map (kept_of h) ns))
-count_same e b c h ns scope access v =
+pub count_same : (h : List Entry) (ns : List Named) (scope : Scope) (access : Access) → Valid h ns → count_latches scope access (held_among h (begins h)) ≡ count_now scope access (held_from 0 (map (kept_of h) ns))
+count_same h ns scope access v =
     ap (λ bs. count_latches scope access bs) (among_is h ∙ sym (filter_low (held h)))
-    ∙ count_briefs e b c h ns scope access (λ j. nat_le 0 j) v
+    ∙ count_briefs h ns scope access (λ j. nat_le 0 j) v
 
 -- the begins from the last writer on are those of no lower number
 no_writer : (scope : Scope) (w : ℕ) (bs : List Begin) → list_any (writes_in scope) bs ≡ false → last_writer scope w bs ≡ w
@@ -272,8 +272,8 @@ each_zero : (js : List ℕ) → Each (λ j. 0 ≤ j) js
 each_zero [] = tt
 each_zero (j ∷ js) = (omega arith, each_zero js)
 
-pub pending_same : (e b c : ℕ) (h : List Entry) (ns : List Named) (scope : Scope) → Valid e b c h ns → count_latches scope Read (held_among h (from_last_writer scope (begins h))) ≡ count_now scope Read (filter (λ (k : Kept). holds_now k && nat_le (last_writer scope 0 (begins h)) k.id) (map (kept_of h) ns))
-pending_same e b c h ns scope v =
+pub pending_same : (h : List Entry) (ns : List Named) (scope : Scope) → Valid h ns → count_latches scope Read (held_among h (from_last_writer scope (begins h))) ≡ count_now scope Read (filter (λ (k : Kept). holds_now k && nat_le (last_writer scope 0 (begins h)) k.id) (map (kept_of h) ns))
+pending_same h ns scope v =
     let w : ℕ = last_writer scope 0 (begins h) in
     let holds : Begin → Bool = λ x. holds_latches x.mode && not (has_ended h x.id) in
     ap (λ bs. count_latches scope Read bs)
@@ -282,4 +282,4 @@ pending_same e b c h ns scope v =
     ∙ filter_agree (λ (x : Begin). nat_le w x.id && holds x) (λ (x : Begin). holds x && nat_le w x.id) (λ x. and_comm (nat_le w x.id) (holds x)) (begins h)
     ∙ sym (filter-filter (λ (x : Begin). nat_le w x.id) holds (begins h))
     ∙ ap (λ bs. filter (λ (x : Begin). nat_le w x.id) bs) (among_is h))
-    ∙ count_briefs e b c h ns scope Read (λ j. nat_le w j) v
+    ∙ count_briefs h ns scope Read (λ j. nat_le w j) v

@@ -26,21 +26,15 @@ run_push s (x ∷ xs) c =
     joined : (a b : List ℕ) (t : Step) → after a (after b t) ≡ after (a ++ b) t
     joined a b t = ap (λ w. let r : Step = record { written = w; state = t.state } in r) (sym (append_assoc a b t.written))
 
--- each state that is reached is valid, with bounds that no count needs
-pub record IsReached (s : State) : Type 0 where
-  pub entries : ℕ
-  pub begins : ℕ
-  pub turns : ℕ
-  pub valid : Valid entries begins turns s.history s.names
-
-run_reaches : (s : State) (cs : List Command) → IsReached s → IsReached (run s cs).state
+-- each state that is reached is valid
+run_reaches : (s : State) (cs : List Command) → Valid s.history s.names → Valid (run s cs).state.history (run s cs).state.names
 run_reaches s [] v = v
 run_reaches s (c ∷ cs) v =
-    let next : Agrees (v.entries + 1 + 1) (v.begins + 1) (v.turns + 1) (one s c) (one_now (running_of s) c) = one_agrees v.entries v.begins v.turns s c v.valid in
-    run_reaches (next_line (one s c).state) cs (record { entries = v.entries + 1 + 1; begins = v.begins + 1; turns = v.turns + 1; valid = next.valid })
+    let next : Agrees (one s c) (one_now (running_of s) c) = one_agrees s c v in
+    run_reaches (next_line (one s c).state) cs next.valid
 
-reached_valid : (cs : List Command) → IsReached (reached cs)
-reached_valid cs = run_reaches start cs (record { entries = 0; begins = 0; turns = 0; valid = start_valid })
+reached_valid : (cs : List Command) → Valid (reached cs).history (reached cs).names
+reached_valid cs = run_reaches start cs start_valid
 
 -- Where a run stands after some commands.
 pub record StandsAfter (cs : List Command) (r : StepRun) (out : List ℕ) : Type 0 where
@@ -49,8 +43,7 @@ pub record StandsAfter (cs : List Command) (r : StepRun) (out : List ℕ) : Type
 
 pub stands_next : (cs : List Command) (i : ℕ) (c : Command) (r new : StepRun) (out more : List ℕ) → i < length cs → c ≡ get_or cs i c → StandsAfter (take i cs) r out → StepsTo (one_now (seen_run r) c) new out more → StandsAfter (take (i + 1) cs) new more
 stands_next cs i c r new out more l e s h =
-    let v : IsReached (reached (take i cs)) = reached_valid (take i cs) in
-    let next : Agrees (v.entries + 1 + 1) (v.begins + 1) (v.turns + 1) (one (reached (take i cs)) c) (one_now (running_of (reached (take i cs))) c) = one_agrees v.entries v.begins v.turns (reached (take i cs)) c v.valid in
+    let next : Agrees (one (reached (take i cs)) c) (one_now (running_of (reached (take i cs))) c) = one_agrees (reached (take i cs)) c (reached_valid (take i cs)) in
     let longer : take (i + 1) cs ≡ take i cs ++ c ∷ [] = take_more cs i c l ∙ ap (λ d. take i cs ++ d ∷ []) (sym e) in
     let pushed : run start (take (i + 1) cs) ≡ after (written_by (take i cs)) (after (one (reached (take i cs)) c).written (silent (next_line (one (reached (take i cs)) c).state))) = ap (λ ds. run start ds) longer ∙ run_push start (take i cs) c in
     record {

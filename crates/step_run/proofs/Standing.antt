@@ -79,11 +79,9 @@ brief_of h n = record { id = n.id; mode = n.mode; latches = latches_of h n.id }
 abbrev pub is_going : Named → Bool
 is_going n = not (is_over n.phase)
 
--- A history and names of a run with at most e entries and b begins, of whose names none has counted more than c turns.
-pub record Valid (e b c : ℕ) (h : List Entry) (ns : List Named) : Type 0 where
-  pub short : length h ≤ e
-  pub few : length (begins h) ≤ b
-  pub counted : Each (λ (n : Named). n.counted ≤ c) ns
+-- A history and live names to which a run may come. The requests have the numbers from 1 on, what has ended has begun, the live names are
+-- in the order of their numbers, and those whose requests are not over are the open requests.
+pub record Valid (h : List Entry) (ns : List Named) : Type 0 where
   pub fresh : (j : ℕ) → length (begins h) < j → has_begun h j ≡ false
   pub unended : (j : ℕ) → length (begins h) < j → has_ended h j ≡ false
   pub begun : Each (λ (n : Named). has_begun h n.id ≡ true) ns
@@ -91,24 +89,8 @@ pub record Valid (e b c : ℕ) (h : List Entry) (ns : List Named) : Type 0 where
   pub rising_begins : Rising (map (λ (x : Begin). x.id) (begins h))
   pub going : map brief (open_begins h) ≡ map (brief_of h) (filter is_going ns)
 
-pub Valid-weaker : (e b c e' b' c' : ℕ) (h : List Entry) (ns : List Named) → e ≤ e' → b ≤ b' → c ≤ c' → Valid e b c h ns → Valid e' b' c' h ns
-Valid-weaker e b c e' b' c' h ns p q r v = record {
-  short = omega (arith, v.short);
-  few = omega (arith, v.few);
-  counted = Each-map (λ (n : Named). n.counted ≤ c) (λ (n : Named). n.counted ≤ c') (λ n k. omega arith) ns v.counted;
-  fresh = v.fresh;
-  unended = v.unended;
-  begun = v.begun;
-  rising = v.rising;
-  rising_begins = v.rising_begins;
-  going = v.going;
-}
-
-pub start_valid : Valid 0 0 0 [] []
+pub start_valid : Valid [] []
 start_valid = record {
-  short = omega arith;
-  few = omega arith;
-  counted = tt;
   fresh = λ j k. refl;
   unended = λ j k. refl;
   begun = tt;
@@ -125,11 +107,8 @@ pub record IsAlike (n m : Named) : Type 0 where
 brief_alike : (h : List Entry) (n m : Named) → IsAlike n m → brief_of h m ≡ brief_of h n
 brief_alike h n m a = let e : m.id ≡ n.id = a.id in let f : m.mode ≡ n.mode = a.mode in cc
 
-pub valid_set : (e b c : ℕ) (h : List Entry) (ns : List Named) (i : ℕ) (n m : Named) → slice_get ns i ≡ Some n → IsAlike n m → is_over m.phase ≡ is_over n.phase → m.counted ≤ c → Valid e b c h ns → Valid e b c h (slice_set ns i m)
-valid_set e b c h ns i n m at a o k v = record {
-  short = v.short;
-  few = v.few;
-  counted = Each-set (λ (n : Named). n.counted ≤ c) ns i m k v.counted;
+pub valid_set : (h : List Entry) (ns : List Named) (i : ℕ) (n m : Named) → slice_get ns i ≡ Some n → IsAlike n m → is_over m.phase ≡ is_over n.phase → Valid h ns → Valid h (slice_set ns i m)
+valid_set h ns i n m at a o v = record {
   fresh = v.fresh;
   unended = v.unended;
   begun = Each-set (λ (n : Named). has_begun h n.id ≡ true) ns i m (ap (λ j. has_begun h j) a.id ∙ Each-at (λ (n : Named). has_begun h n.id ≡ true) ns i n at v.begun) v.begun;
@@ -139,8 +118,8 @@ valid_set e b c h ns i n m at a o k v = record {
 }
 
 -- numbers that have begun
-pub begun_low : (e b c : ℕ) (h : List Entry) (ns : List Named) (j : ℕ) → Valid e b c h ns → has_begun h j ≡ true → j ≤ length (begins h)
-begun_low e b c h ns j v t = elim (cases_lt (length (begins h)) j) [ inl l ↦ absurd (both_ways (v.fresh j l) t) | inr l ↦ l ]
+pub begun_low : (h : List Entry) (ns : List Named) (j : ℕ) → Valid h ns → has_begun h j ≡ true → j ≤ length (begins h)
+begun_low h ns j v t = elim (cases_lt (length (begins h)) j) [ inl l ↦ absurd (both_ways (v.fresh j l) t) | inr l ↦ l ]
   where
     both_ways : {x : Bool} → x ≡ false → x ≡ true → ⊥
     both_ways f t = cc
@@ -178,16 +157,13 @@ or_no a b e f = ap (λ c. c || (b || false)) e ∙ ap (λ c. c || false) f
 pub begins_ended : (h : List Entry) (id who : ℕ) (grant : Grant) (poison : Cause) (fault : Fault) → begins (h ++ Ended id who grant poison fault ∷ []) ≡ begins h
 begins_ended h id who grant poison fault = begins-append h (Ended id who grant poison fault ∷ []) ∙ append-nil (begins h)
 
-pub valid_end : (e b c : ℕ) (h : List Entry) (ns : List Named) (i : ℕ) (n m : Named) (who : ℕ) (grant : Grant) (poison : Cause) (fault : Fault) → slice_get ns i ≡ Some n → m.id ≡ n.id → m.phase ≡ Over → m.counted ≤ c → Valid e b c h ns → Valid (e + 1) b c (h ++ Ended n.id who grant poison fault ∷ []) (slice_set ns i m)
-valid_end e b c h ns i n m who grant poison fault at a o k v =
+pub valid_end : (h : List Entry) (ns : List Named) (i : ℕ) (n m : Named) (who : ℕ) (grant : Grant) (poison : Cause) (fault : Fault) → slice_get ns i ≡ Some n → m.id ≡ n.id → m.phase ≡ Over → Valid h ns → Valid (h ++ Ended n.id who grant poison fault ∷ []) (slice_set ns i m)
+valid_end h ns i n m who grant poison fault at a o v =
     let x : Entry = Ended n.id who grant poison fault in
     let same : begins (h ++ x ∷ []) ≡ begins h = begins_ended h n.id who grant poison fault in
     let here : has_begun h n.id ≡ true = Each-at (λ (n : Named). has_begun h n.id ≡ true) ns i n at v.begun in
-    let low : n.id ≤ length (begins h) = begun_low e b c h ns n.id v here in
+    let low : n.id ≤ length (begins h) = begun_low h ns n.id v here in
     record {
-      short = omega (arith, length-append h (x ∷ []), v.short);
-      few = subst (λ xs. length xs ≤ b) (sym same) v.few;
-      counted = Each-set (λ (n : Named). n.counted ≤ c) ns i m k v.counted;
       fresh = λ j l. has_begun-append h (x ∷ []) j ∙ ap (λ b. b || false) (v.fresh j (subst (λ xs. length xs < j) same l));
       unended = λ j l. let l2 : length (begins h) < j = subst (λ xs. length xs < j) same l in has_ended-append h (x ∷ []) j ∙ or_no (has_ended h j) (n.id == j) (v.unended j l2) (ne_eqb n.id j (λ g. absurd (omega arith)));
       begun = Each-set (λ (n : Named). has_begun (h ++ x ∷ []) n.id ≡ true) ns i m (ap (λ j. has_begun (h ++ x ∷ []) j) a ∙ has_begun-append h (x ∷ []) n.id ∙ ap (λ b. b || false) here) (begun_stays h (x ∷ []) ns v.begun);
@@ -206,11 +182,8 @@ valid_end e b c h ns i n m who grant poison fault at a o k v =
     }
 
 -- a release of a name whose request is over
-pub valid_remove : (e b c : ℕ) (h : List Entry) (ns : List Named) (i : ℕ) (n : Named) → slice_get ns i ≡ Some n → is_over n.phase ≡ true → Valid e b c h ns → Valid e b c h (remove ns i)
-valid_remove e b c h ns i n at o v = record {
-  short = v.short;
-  few = v.few;
-  counted = Each-remove (λ (n : Named). n.counted ≤ c) ns i v.counted;
+pub valid_remove : (h : List Entry) (ns : List Named) (i : ℕ) (n : Named) → slice_get ns i ≡ Some n → is_over n.phase ≡ true → Valid h ns → Valid h (remove ns i)
+valid_remove h ns i n at o v = record {
   fresh = v.fresh;
   unended = v.unended;
   begun = Each-remove (λ (n : Named). has_begun h n.id ≡ true) ns i v.begun;
@@ -227,17 +200,14 @@ Each-push : {X : Type 0} (P : X → Type 0) (xs : List X) (y : X) → Each P xs 
 Each-push P [] y e p = (p, tt)
 Each-push P (x ∷ xs) y e p = (e.0, Each-push P xs y e.1 p)
 
-pub valid_begin : (e b c : ℕ) (h : List Entry) (ns : List Named) (lane who : ℕ) (mode : Mode) (request : Declaration) (m : Named) → m.id ≡ length (begins h) + 1 → m.mode ≡ mode → is_over m.phase ≡ false → m.counted ≤ c → latches_of (h ++ Begun (length (begins h) + 1) lane who mode request ∷ []) m.id ≡ request.latches → Valid e b c h ns → Valid (e + 1) (b + 1) c (h ++ Begun (length (begins h) + 1) lane who mode request ∷ []) (ns ++ m ∷ [])
-valid_begin e b c h ns lane who mode request m a d o k l v =
+pub valid_begin : (h : List Entry) (ns : List Named) (lane who : ℕ) (mode : Mode) (request : Declaration) (m : Named) → m.id ≡ length (begins h) + 1 → m.mode ≡ mode → is_over m.phase ≡ false → latches_of (h ++ Begun (length (begins h) + 1) lane who mode request ∷ []) m.id ≡ request.latches → Valid h ns → Valid (h ++ Begun (length (begins h) + 1) lane who mode request ∷ []) (ns ++ m ∷ [])
+valid_begin h ns lane who mode request m a d o l v =
     let id : ℕ = length (begins h) + 1 in
     let x : Entry = Begun id lane who mode request in
     let y : Begin = record { id = id; lane = lane; who = who; mode = mode; request = request } in
     let grown : begins (h ++ x ∷ []) ≡ begins h ++ y ∷ [] = begins-append h (x ∷ []) in
     let longer : length (begins (h ++ x ∷ [])) ≡ length (begins h) + 1 = ap length grown ∙ length-append (begins h) (y ∷ []) in
     record {
-      short = omega (arith, length-append h (x ∷ []), v.short);
-      few = omega (arith, longer, v.few);
-      counted = Each-push (λ (n : Named). n.counted ≤ c) ns m v.counted k;
       fresh = λ j l. has_begun-append h (x ∷ []) j ∙ or_no (has_begun h j) (id == j) (v.fresh j (omega (arith, longer))) (ne_eqb id j (λ g. absurd (omega (arith, longer))));
       unended = λ j l. has_ended-append h (x ∷ []) j ∙ ap (λ b. b || false) (v.unended j (omega (arith, longer)));
       begun = Each-push (λ (n : Named). has_begun (h ++ x ∷ []) n.id ≡ true) ns m (begun_stays h (x ∷ []) ns v.begun)
@@ -245,12 +215,12 @@ valid_begin e b c h ns lane who mode request m a d o k l v =
       rising = subst Rising (sym (map-append (λ (n : Named). n.id) ns (m ∷ [])))
           (Rising-push (map (λ (n : Named). n.id) ns) m.id v.rising
           (Each-at_map (λ j. j < m.id) (λ (n : Named). n.id) ns
-          (Each-map (λ (n : Named). has_begun h n.id ≡ true) (λ (n : Named). n.id < m.id) (λ n t. let q : n.id ≤ length (begins h) = begun_low e b c h ns n.id v t in omega arith) ns v.begun)));
+          (Each-map (λ (n : Named). has_begun h n.id ≡ true) (λ (n : Named). n.id < m.id) (λ n t. let q : n.id ≤ length (begins h) = begun_low h ns n.id v t in omega arith) ns v.begun)));
       rising_begins = subst (λ xs. Rising (map (λ (x : Begin). x.id) xs)) (sym grown)
           (subst Rising (sym (map-append (λ (x : Begin). x.id) (begins h) (y ∷ [])))
           (Rising-push (map (λ (x : Begin). x.id) (begins h)) id v.rising_begins
           (Each-at_map (λ j. j < id) (λ (x : Begin). x.id) (begins h)
-          (Each-map (λ (x : Begin). has_begun h x.id ≡ true) (λ (x : Begin). x.id < id) (λ x t. let q : x.id ≤ length (begins h) = begun_low e b c h ns x.id v t in omega arith) (begins h) (begins_self h)))));
+          (Each-map (λ (x : Begin). has_begun h x.id ≡ true) (λ (x : Begin). x.id < id) (λ x t. let q : x.id ≤ length (begins h) = begun_low h ns x.id v t in omega arith) (begins h) (begins_self h)))));
       going =
           ap (λ xs. map brief xs) (open_begins_begun h id lane who mode request (v.unended id (omega arith)))
           ∙ map-append brief (open_begins h) (y ∷ [])

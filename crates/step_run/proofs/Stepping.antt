@@ -36,56 +36,53 @@ use Rattle.step_run.proofs.Growing.{begins-append, in_front_new, latches_of_new}
 use Rattle.step_run.proofs.Meeting.{captured_declared, meeting}
 use Rattle.step_run.proofs.Holding.{before_same, count_same, held_same, over_stage_is, pending_same}
 use Rattle.step_run.proofs.Places.{Each-at, find_by_place, get-map, position_map, get-set, get_push, map-remove, remove-set, set_same}
-use Rattle.step_run.proofs.Standing.{Valid, Valid-weaker, begins_ended, kept-append, kept_of, last_writer, running_of, stage_of, valid_begin, valid_end, valid_remove, valid_set}
+use Rattle.step_run.proofs.Standing.{Valid, begins_ended, kept-append, kept_of, last_writer, running_of, stage_of, valid_begin, valid_end, valid_remove, valid_set}
 use Rattle.step_run.proofs.Turning.{AgreesAt, named_agrees, named_lives, not_counted, replaced_at, running_made, summary_checked, summary_granted, summary_made, summary_never, turn_agrees, without_at}
 
 -- What a command does to a state is what it does to what is kept.
-pub record Agrees (e b c : ℕ) (a : Step) (t : Stepped) : Type 0 where
+pub record Agrees (a : Step) (t : Stepped) : Type 0 where
   pub written : a.written ≡ t.written
   pub run : running_of a.state ≡ t.run
-  pub valid : Valid e b c a.state.history a.state.names
+  pub valid : Valid a.state.history a.state.names
 
-weaker : (e b c e' b' c' : ℕ) (a : Step) (t : Stepped) → e ≤ e' → b ≤ b' → c ≤ c' → Agrees e b c a t → Agrees e' b' c' a t
-weaker e b c e' b' c' a t p q r g = record { written = g.written; run = g.run; valid = Valid-weaker e b c e' b' c' a.state.history a.state.names p q r g.valid }
+at_agrees : (s : State) (i : ℕ) (a : Step) (t : Turned) → AgreesAt s i a t → Agrees a (stepped i t (running_of s))
+at_agrees s i a t g = record { written = g.written; run = g.run; valid = g.valid }
 
-at_agrees : (e b c : ℕ) (s : State) (i : ℕ) (a : Step) (t : Turned) → AgreesAt e b c s i a t → Agrees e b c a (stepped i t (running_of s))
-at_agrees e b c s i a t g = record { written = g.written; run = g.run; valid = g.valid }
-
-silent_agrees : (e b c : ℕ) (s : State) → Valid e b c s.history s.names → Agrees e b c (silent s) (kept_silent (running_of s))
-silent_agrees e b c s v = record { written = refl; run = refl; valid = v }
+silent_agrees : (s : State) → Valid s.history s.names → Agrees (silent s) (kept_silent (running_of s))
+silent_agrees s v = record { written = refl; run = refl; valid = v }
 
 -- wait
-running_named : (e b c : ℕ) (s : State) (i : ℕ) (n m : Named) → slice_get s.names i ≡ Some n → m.id ≡ n.id → Valid e b c s.history s.names → running_of (with_name m s) ≡ with_lives (running_of s) (slice_set (map (kept_of s.history) s.names) i (kept_of s.history m))
-running_named e b c s i n m at a v = running_made _ _ _ _ _ _ _ _ _ _ (named_lives s.history s.names i n m at a v.rising) refl refl refl refl
+running_named : (s : State) (i : ℕ) (n m : Named) → slice_get s.names i ≡ Some n → m.id ≡ n.id → Valid s.history s.names → running_of (with_name m s) ≡ with_lives (running_of s) (slice_set (map (kept_of s.history) s.names) i (kept_of s.history m))
+running_named s i n m at a v = running_made _ _ _ _ _ _ _ _ _ _ (named_lives s.history s.names i n m at a v.rising) refl refl refl refl
 
-waited_agrees : (e b c : ℕ) (s : State) (i : ℕ) (n : Named) (phase : Phase) → n.phase ≡ phase → slice_get s.names i ≡ Some n → Valid e b c s.history s.names → Agrees (e + 1) b (c + 1) (waited phase n s) (waited_now (stage_of phase) i (kept_of s.history n) (running_of s))
-waited_agrees e b c s i n Optimistic p at v =
+waited_agrees : (s : State) (i : ℕ) (n : Named) (phase : Phase) → n.phase ≡ phase → slice_get s.names i ≡ Some n → Valid s.history s.names → Agrees (waited phase n s) (waited_now (stage_of phase) i (kept_of s.history n) (running_of s))
+waited_agrees s i n Optimistic p at v =
     let m : Named = record n { phase = Pending; passed = None } in
     let placed : slice_set s.names i m ≡ replaced m s.names = sym (replaced_at s.names i n m at refl v.rising) in
-    subst (λ r. Agrees (e + 1) b (c + 1) (turn m (with_name m s)) (turn_at i (kept_of s.history m) r)) (running_named e b c s i n m at refl v)
-    (at_agrees (e + 1) b (c + 1) (with_name m s) i (turn m (with_name m s)) _
-    (turn_agrees e b c (with_name m s) i m
+    subst (λ r. Agrees (turn m (with_name m s)) (turn_at i (kept_of s.history m) r)) (running_named s i n m at refl v)
+    (at_agrees (with_name m s) i (turn m (with_name m s)) _
+    (turn_agrees (with_name m s) i m
     (subst (λ ns. slice_get ns i ≡ Some m) placed (get-set s.names i n m at)) refl
-    (subst (λ ns. Valid e b c s.history ns) placed
-    (valid_set e b c s.history s.names i n m at (record { id = refl; mode = refl }) (sym (ap is_over p)) (Each-at (λ (n : Named). n.counted ≤ c) s.names i n at v.counted) v))))
-waited_agrees e b c s i n Pending p at v = at_agrees (e + 1) b (c + 1) s i (turn n s) _ (turn_agrees e b c s i n at (ap is_over p) v)
-waited_agrees e b c s i n (Granted front) p at v = silent_agrees (e + 1) b (c + 1) s (Valid-weaker e b c (e + 1) b (c + 1) s.history s.names (omega arith) (omega arith) (omega arith) v)
-waited_agrees e b c s i n Over p at v = silent_agrees (e + 1) b (c + 1) s (Valid-weaker e b c (e + 1) b (c + 1) s.history s.names (omega arith) (omega arith) (omega arith) v)
+    (subst (λ ns. Valid s.history ns) placed
+    (valid_set s.history s.names i n m at (record { id = refl; mode = refl }) (sym (ap is_over p)) v))))
+waited_agrees s i n Pending p at v = at_agrees s i (turn n s) _ (turn_agrees s i n at (ap is_over p) v)
+waited_agrees s i n (Granted front) p at v = silent_agrees s v
+waited_agrees s i n Over p at v = silent_agrees s v
 
 -- a name that stays as it is
-same_agrees : (e b c : ℕ) (s : State) (i : ℕ) (n : Named) (text : List ℕ) → slice_get s.names i ≡ Some n → Valid e b c s.history s.names → Agrees e b c (record { written = text; state = s }) (stepped i (record { written = text; live = kept_of s.history n; ending = None }) (running_of s))
-same_agrees e b c s i n text at v = record {
+same_agrees : (s : State) (i : ℕ) (n : Named) (text : List ℕ) → slice_get s.names i ≡ Some n → Valid s.history s.names → Agrees (record { written = text; state = s }) (stepped i (record { written = text; live = kept_of s.history n; ending = None }) (running_of s))
+same_agrees s i n text at v = record {
   written = refl;
   run = running_made _ _ _ _ _ _ _ _ _ _ (sym (set_same (map (kept_of s.history) s.names) i (kept_of s.history n) (get-map (kept_of s.history) s.names i n at))) (sym (add-zero (length s.history))) refl refl refl;
   valid = v;
 }
 
 -- check
-met_first_agrees : (e b c : ℕ) (s : State) (i : ℕ) (n : Named) (asked : List Latch) (xs : List HeldLatch) → slice_get s.names i ≡ Some n → Valid e b c s.history s.names → Agrees e b c (met_first n s asked xs) (stepped i (checked_against (kept_of s.history n) (option_map unlaned (head xs))) (running_of s))
-met_first_agrees e b c s i n asked [] at v =
-    at_agrees e b c s i _ _ (named_agrees e b c s i n (record n { passed = Some asked }) (line n (codes "clear")) at (record { id = refl; mode = refl }) refl (Each-at (λ (n : Named). n.counted ≤ c) s.names i n at v.counted) v)
-met_first_agrees e b c s i n asked (x ∷ xs) at v =
-    at_agrees e b c s i _ _ (named_agrees e b c s i n (record n { passed = None }) _ at (record { id = refl; mode = refl }) refl (Each-at (λ (n : Named). n.counted ≤ c) s.names i n at v.counted) v)
+met_first_agrees : (s : State) (i : ℕ) (n : Named) (asked : List Latch) (xs : List HeldLatch) → slice_get s.names i ≡ Some n → Valid s.history s.names → Agrees (met_first n s asked xs) (stepped i (checked_against (kept_of s.history n) (option_map unlaned (head xs))) (running_of s))
+met_first_agrees s i n asked [] at v =
+    at_agrees s i _ _ (named_agrees s i n (record n { passed = Some asked }) (line n (codes "clear")) at (record { id = refl; mode = refl }) refl v)
+met_first_agrees s i n asked (x ∷ xs) at v =
+    at_agrees s i _ _ (named_agrees s i n (record n { passed = None }) _ at (record { id = refl; mode = refl }) refl v)
 
 filter_true : {X : Type 0} (xs : List X) → filter (λ x. true) xs ≡ xs
 filter_true [] = refl
@@ -113,24 +110,24 @@ all_declared ls asked e =
     (none_passes (λ l. not (is_declared ls l)) asked
     (no_place (position_or_len (λ l. not (is_declared ls l)) asked) (length asked) (nat_lt (position_or_len (λ l. not (is_declared ls l)) asked) (length asked)) refl e))
 
-checked_agrees : (e b c : ℕ) (s : State) (i : ℕ) (n : Named) (asked : List Latch) (o : Option ℕ) → position (λ l. not (is_declared (latches_of s.history n.id) l)) asked ≡ o → slice_get s.names i ≡ Some n → Valid e b c s.history s.names → Agrees e b c (checked_unless o n s asked) (stepped i (checked_now (kept_of s.history n) asked o) (running_of s))
-checked_agrees e b c s i n asked (Some index) p at v = same_agrees e b c s i n (line n (codes "undeclared " ++ decimal index)) at v
-checked_agrees e b c s i n asked None p at v =
-    subst (λ o. Agrees e b c (met_first n s asked (met s.history n.id asked)) (stepped i (checked_against (kept_of s.history n) o) (running_of s)))
+checked_agrees : (s : State) (i : ℕ) (n : Named) (asked : List Latch) (o : Option ℕ) → position (λ l. not (is_declared (latches_of s.history n.id) l)) asked ≡ o → slice_get s.names i ≡ Some n → Valid s.history s.names → Agrees (checked_unless o n s asked) (stepped i (checked_now (kept_of s.history n) asked o) (running_of s))
+checked_agrees s i n asked (Some index) p at v = same_agrees s i n (line n (codes "undeclared " ++ decimal index)) at v
+checked_agrees s i n asked None p at v =
+    subst (λ o. Agrees (met_first n s asked (met s.history n.id asked)) (stepped i (checked_against (kept_of s.history n) o) (running_of s)))
     (ap (λ xs. option_map unlaned (head xs)) (sym (filter_true (met s.history n.id asked)))
     ∙ meeting s.history n.id (λ j. true) asked (captured_declared (latches_of s.history n.id) asked (all_declared (latches_of s.history n.id) asked p)))
-    (met_first_agrees e b c s i n asked (met s.history n.id asked) at v)
+    (met_first_agrees s i n asked (met s.history n.id asked) at v)
 
 -- poison
-poisoned_step : (e b c : ℕ) (s : State) (i : ℕ) (n : Named) (t : Bool) → slice_get s.names i ≡ Some n → Valid e b c s.history s.names → Agrees e b c (cond t (silent s) (record { written = line n (codes "poisons"); state = with_name (record n { cause = Called }) s })) (stepped i (cond t (record { written = []; live = kept_of s.history n; ending = None }) (record { written = kept_line (kept_of s.history n) (codes "poisons"); live = record (kept_of s.history n) { poisoned = true }; ending = None })) (running_of s))
-poisoned_step e b c s i n true at v = same_agrees e b c s i n [] at v
-poisoned_step e b c s i n false at v =
-    at_agrees e b c s i _ _ (named_agrees e b c s i n (record n { cause = Called }) (line n (codes "poisons")) at (record { id = refl; mode = refl }) refl (Each-at (λ (n : Named). n.counted ≤ c) s.names i n at v.counted) v)
+poisoned_step : (s : State) (i : ℕ) (n : Named) (t : Bool) → slice_get s.names i ≡ Some n → Valid s.history s.names → Agrees (cond t (silent s) (record { written = line n (codes "poisons"); state = with_name (record n { cause = Called }) s })) (stepped i (cond t (record { written = []; live = kept_of s.history n; ending = None }) (record { written = kept_line (kept_of s.history n) (codes "poisons"); live = record (kept_of s.history n) { poisoned = true }; ending = None })) (running_of s))
+poisoned_step s i n true at v = same_agrees s i n [] at v
+poisoned_step s i n false at v =
+    at_agrees s i _ _ (named_agrees s i n (record n { cause = Called }) (line n (codes "poisons")) at (record { id = refl; mode = refl }) refl v)
 
-poisoned_agrees : (e b c : ℕ) (s : State) (i : ℕ) (n : Named) → slice_get s.names i ≡ Some n → Valid e b c s.history s.names → Agrees e b c (poisoned n s) (stepped i (poison_now (kept_of s.history n)) (running_of s))
-poisoned_agrees e b c s i n at v =
-    subst (λ o. Agrees e b c (poisoned n s) (stepped i (cond (o || has_cause n.cause) (record { written = []; live = kept_of s.history n; ending = None }) (record { written = kept_line (kept_of s.history n) (codes "poisons"); live = record (kept_of s.history n) { poisoned = true }; ending = None })) (running_of s)))
-    (sym (over_stage_is n.phase)) (poisoned_step e b c s i n (is_over n.phase || has_cause n.cause) at v)
+poisoned_agrees : (s : State) (i : ℕ) (n : Named) → slice_get s.names i ≡ Some n → Valid s.history s.names → Agrees (poisoned n s) (stepped i (poison_now (kept_of s.history n)) (running_of s))
+poisoned_agrees s i n at v =
+    subst (λ o. Agrees (poisoned n s) (stepped i (cond (o || has_cause n.cause) (record { written = []; live = kept_of s.history n; ending = None }) (record { written = kept_line (kept_of s.history n) (codes "poisons"); live = record (kept_of s.history n) { poisoned = true }; ending = None })) (running_of s)))
+    (sym (over_stage_is n.phase)) (poisoned_step s i n (is_over n.phase || has_cause n.cause) at v)
 
 -- release
 abbrev removed : Running → ℕ → Option Ending → Running
@@ -145,18 +142,18 @@ removed r i ending = record {
 abbrev without_name : Named → State → State
 without_name n t = record { history = t.history; names = without n.id t.names; line = t.line }
 
-without_over : (ns : List Named) (i : ℕ) (n m : Named) → slice_get ns i ≡ Some n → m.id ≡ n.id → (v : (e b c : ℕ) (h : List Entry) → Unit {0}) → (r : replaced m ns ≡ slice_set ns i m) → without n.id (slice_set ns i m) ≡ remove (slice_set ns i m) i → without n.id (replaced m ns) ≡ remove ns i
-without_over ns i n m at a v r w = ap (λ ms. without n.id ms) r ∙ w ∙ remove-set ns i m
+without_over : (ns : List Named) (i : ℕ) (n m : Named) → replaced m ns ≡ slice_set ns i m → without n.id (slice_set ns i m) ≡ remove (slice_set ns i m) i → without n.id (replaced m ns) ≡ remove ns i
+without_over ns i n m r w = ap (λ ms. without n.id ms) r ∙ w ∙ remove-set ns i m
 
-ended_release : (e b c : ℕ) (s : State) (i : ℕ) (n : Named) (grant : Grant) (ending : Ending) → slice_get s.names i ≡ Some n → summary_of (s.history ++ Ended n.id n.session grant n.cause no_fault ∷ []) ≡ with_ending (Some ending) (summary_of s.history) → Valid e b c s.history s.names → Agrees (e + 1) b c (record { written = line n (codes "ended"); state = without_name n (ended grant no_fault n s) }) (record { written = kept_line (kept_of s.history n) (codes "ended"); run = removed (running_of s) i (Some ending) })
-ended_release e b c s i n grant ending at q v =
+ended_release : (s : State) (i : ℕ) (n : Named) (grant : Grant) (ending : Ending) → slice_get s.names i ≡ Some n → summary_of (s.history ++ Ended n.id n.session grant n.cause no_fault ∷ []) ≡ with_ending (Some ending) (summary_of s.history) → Valid s.history s.names → Agrees (record { written = line n (codes "ended"); state = without_name n (ended grant no_fault n s) }) (record { written = kept_line (kept_of s.history n) (codes "ended"); run = removed (running_of s) i (Some ending) })
+ended_release s i n grant ending at q v =
     let over : Named = record n { phase = Over } in
     let x : Entry = Ended n.id n.session grant n.cause no_fault in
-    let valid : Valid (e + 1) b c (s.history ++ x ∷ []) (slice_set s.names i over) = valid_end e b c s.history s.names i n over n.session grant n.cause no_fault at refl refl (Each-at (λ (n : Named). n.counted ≤ c) s.names i n at v.counted) v in
+    let valid : Valid (s.history ++ x ∷ []) (slice_set s.names i over) = valid_end s.history s.names i n over n.session grant n.cause no_fault at refl refl v in
     let here : slice_get (slice_set s.names i over) i ≡ Some over = get-set s.names i n over at in
     let gone : without n.id (replaced over s.names) ≡ remove s.names i =
-    without_over s.names i n over at refl (λ e b c h. tt) (replaced_at s.names i n over at refl v.rising) (without_at (slice_set s.names i over) i over here valid.rising) in
-    let left : Valid (e + 1) b c (s.history ++ x ∷ []) (remove (slice_set s.names i over) i) = valid_remove (e + 1) b c (s.history ++ x ∷ []) (slice_set s.names i over) i over here refl valid in
+    without_over s.names i n over (replaced_at s.names i n over at refl v.rising) (without_at (slice_set s.names i over) i over here valid.rising) in
+    let left : Valid (s.history ++ x ∷ []) (remove (slice_set s.names i over) i) = valid_remove (s.history ++ x ∷ []) (slice_set s.names i over) i over here refl valid in
     record {
       written = refl;
       run = running_made _ _ _ _ _ _ _ _ _ _
@@ -166,32 +163,32 @@ ended_release e b c s i n grant ending at q v =
           (length-append s.history (x ∷ [])) q
           (ap (λ bs. last_writer Global 0 bs) (begins_ended s.history n.id n.session grant n.cause no_fault))
           (ap (λ bs. last_writer Local 0 bs) (begins_ended s.history n.id n.session grant n.cause no_fault));
-      valid = subst (λ ns. Valid (e + 1) b c (s.history ++ x ∷ []) ns) (remove-set s.names i over ∙ sym gone) left;
+      valid = subst (λ ns. Valid (s.history ++ x ∷ []) ns) (remove-set s.names i over ∙ sym gone) left;
     }
 
-over_release : (e b c : ℕ) (s : State) (i : ℕ) (n : Named) → n.phase ≡ Over → slice_get s.names i ≡ Some n → Valid e b c s.history s.names → Agrees (e + 1) b c (record { written = line n (codes "ended"); state = without_name n s }) (record { written = kept_line (kept_of s.history n) (codes "ended"); run = removed (running_of s) i None })
-over_release e b c s i n p at v =
+over_release : (s : State) (i : ℕ) (n : Named) → n.phase ≡ Over → slice_get s.names i ≡ Some n → Valid s.history s.names → Agrees (record { written = line n (codes "ended"); state = without_name n s }) (record { written = kept_line (kept_of s.history n) (codes "ended"); run = removed (running_of s) i None })
+over_release s i n p at v =
     let gone : without n.id s.names ≡ remove s.names i = without_at s.names i n at v.rising in
     record {
       written = refl;
       run = running_made _ _ _ _ _ _ _ _ _ _ (ap (λ ns. map (kept_of s.history) ns) gone ∙ map-remove (kept_of s.history) s.names i) (sym (add-zero (length s.history))) refl refl refl;
-      valid = subst (λ ns. Valid (e + 1) b c s.history ns) (sym gone)
-          (Valid-weaker e b c (e + 1) b c s.history (remove s.names i) (omega arith) (omega arith) (omega arith) (valid_remove e b c s.history s.names i n at (ap is_over p) v));
+      valid = subst (λ ns. Valid s.history ns) (sym gone)
+          (valid_remove s.history s.names i n at (ap is_over p) v);
     }
 
-checked_release : (e b c : ℕ) (s : State) (i : ℕ) (n : Named) (passed : Option (List Latch)) → n.passed ≡ passed → n.phase ≡ Optimistic → slice_get s.names i ≡ Some n → Valid e b c s.history s.names → Agrees (e + 1) b c (record { written = line n (codes "ended"); state = without_name n (ended (passed_grant n.passed) no_fault n s) }) (record { written = kept_line (kept_of s.history n) (codes "ended"); run = removed (running_of s) i (ending_of (stage_of Optimistic) (is_some passed)) })
-checked_release e b c s i n None p o at v =
-    subst (λ g. Agrees (e + 1) b c (record { written = line n (codes "ended"); state = without_name n (ended (passed_grant g) no_fault n s) }) (record { written = kept_line (kept_of s.history n) (codes "ended"); run = removed (running_of s) i (Some by_never) })) (sym p)
-    (ended_release e b c s i n Never by_never at (summary_never s.history n.id n.session n.cause) v)
-checked_release e b c s i n (Some asked) p o at v =
-    subst (λ g. Agrees (e + 1) b c (record { written = line n (codes "ended"); state = without_name n (ended (passed_grant g) no_fault n s) }) (record { written = kept_line (kept_of s.history n) (codes "ended"); run = removed (running_of s) i (Some by_check) })) (sym p)
-    (ended_release e b c s i n (Checked asked) by_check at (summary_checked s.history n.id n.session asked n.cause) v)
+checked_release : (s : State) (i : ℕ) (n : Named) (passed : Option (List Latch)) → n.passed ≡ passed → n.phase ≡ Optimistic → slice_get s.names i ≡ Some n → Valid s.history s.names → Agrees (record { written = line n (codes "ended"); state = without_name n (ended (passed_grant n.passed) no_fault n s) }) (record { written = kept_line (kept_of s.history n) (codes "ended"); run = removed (running_of s) i (ending_of (stage_of Optimistic) (is_some passed)) })
+checked_release s i n None p o at v =
+    subst (λ g. Agrees (record { written = line n (codes "ended"); state = without_name n (ended (passed_grant g) no_fault n s) }) (record { written = kept_line (kept_of s.history n) (codes "ended"); run = removed (running_of s) i (Some by_never) })) (sym p)
+    (ended_release s i n Never by_never at (summary_never s.history n.id n.session n.cause) v)
+checked_release s i n (Some asked) p o at v =
+    subst (λ g. Agrees (record { written = line n (codes "ended"); state = without_name n (ended (passed_grant g) no_fault n s) }) (record { written = kept_line (kept_of s.history n) (codes "ended"); run = removed (running_of s) i (Some by_check) })) (sym p)
+    (ended_release s i n (Checked asked) by_check at (summary_checked s.history n.id n.session asked n.cause) v)
 
-released_agrees : (e b c : ℕ) (s : State) (i : ℕ) (n : Named) (phase : Phase) → n.phase ≡ phase → slice_get s.names i ≡ Some n → Valid e b c s.history s.names → Agrees (e + 1) b c (record { written = line n (codes "ended"); state = without_name n (released_state phase n s) }) (record { written = kept_line (kept_of s.history n) (codes "ended"); run = removed (running_of s) i (ending_of (stage_of phase) (is_some n.passed)) })
-released_agrees e b c s i n Optimistic p at v = checked_release e b c s i n n.passed refl p at v
-released_agrees e b c s i n Pending p at v = ended_release e b c s i n Never by_never at (summary_never s.history n.id n.session n.cause) v
-released_agrees e b c s i n (Granted front) p at v = ended_release e b c s i n (Waited front) by_grant at (summary_granted s.history n.id n.session front n.cause) v
-released_agrees e b c s i n Over p at v = over_release e b c s i n p at v
+released_agrees : (s : State) (i : ℕ) (n : Named) (phase : Phase) → n.phase ≡ phase → slice_get s.names i ≡ Some n → Valid s.history s.names → Agrees (record { written = line n (codes "ended"); state = without_name n (released_state phase n s) }) (record { written = kept_line (kept_of s.history n) (codes "ended"); run = removed (running_of s) i (ending_of (stage_of phase) (is_some n.passed)) })
+released_agrees s i n Optimistic p at v = checked_release s i n n.passed refl p at v
+released_agrees s i n Pending p at v = ended_release s i n Never by_never at (summary_never s.history n.id n.session n.cause) v
+released_agrees s i n (Granted front) p at v = ended_release s i n (Waited front) by_grant at (summary_granted s.history n.id n.session front n.cause) v
+released_agrees s i n Over p at v = over_release s i n p at v
 
 -- opening
 last_writer-push : (scope : Scope) (w : ℕ) (bs : List Begin) (x : Begin) → last_writer scope w (bs ++ x ∷ []) ≡ cond (writes_in scope x) x.id (last_writer scope w bs)
@@ -208,10 +205,10 @@ stage_first_is Acquire = refl
 stage_first_is optimistic_mode = refl
 stage_first_is Look = refl
 
-first_turn_agrees : (e b c : ℕ) (s : State) (i : ℕ) (n : Named) (mode : Mode) → slice_get s.names i ≡ Some n → is_over n.phase ≡ false → Valid e b c s.history s.names → Agrees (e + 1) b (c + 1) (first_turn mode n s) (first_turn_now mode i (kept_of s.history n) (running_of s))
-first_turn_agrees e b c s i n Acquire at o v = at_agrees (e + 1) b (c + 1) s i (turn n s) _ (turn_agrees e b c s i n at o v)
-first_turn_agrees e b c s i n optimistic_mode at o v = silent_agrees (e + 1) b (c + 1) s (Valid-weaker e b c (e + 1) b (c + 1) s.history s.names (omega arith) (omega arith) (omega arith) v)
-first_turn_agrees e b c s i n Look at o v = at_agrees (e + 1) b (c + 1) s i (turn n s) _ (turn_agrees e b c s i n at o v)
+first_turn_agrees : (s : State) (i : ℕ) (n : Named) (mode : Mode) → slice_get s.names i ≡ Some n → is_over n.phase ≡ false → Valid s.history s.names → Agrees (first_turn mode n s) (first_turn_now mode i (kept_of s.history n) (running_of s))
+first_turn_agrees s i n Acquire at o v = at_agrees s i (turn n s) _ (turn_agrees s i n at o v)
+first_turn_agrees s i n optimistic_mode at o v = silent_agrees s v
+first_turn_agrees s i n Look at o v = at_agrees s i (turn n s) _ (turn_agrees s i n at o v)
 
 kept_made : (k k' : Kept) → k.name ≡ k'.name → k.id ≡ k'.id → k.mode ≡ k'.mode → k.policy ≡ k'.policy → k.turns ≡ k'.turns → k.counted ≡ k'.counted → k.stage ≡ k'.stage → k.passed ≡ k'.passed → k.poisoned ≡ k'.poisoned → k.latches ≡ k'.latches → k.front ≡ k'.front → k ≡ k'
 kept_made k k' a b c d e f g h i j l =
@@ -227,8 +224,8 @@ kept_made k k' a b c d e f g h i j l =
     ∙ ap (λ x. let r : Kept = record k' { latches = x; front = k.front } in r) j
     ∙ ap (λ x. let r : Kept = record k' { front = x } in r) l
 
-opening_agrees : (e b c : ℕ) (s : State) (session : ℕ) (name : List ℕ) (mode : Mode) (policy : Policy) (turns : Option ℕ) (latches : List Latch) → Valid e b c s.history s.names → Agrees (e + 1 + 1) (b + 1) (c + 1) (opening s session name mode policy turns latches) (opening_now (running_of s) name mode policy turns latches)
-opening_agrees e b c s session name mode policy turns latches v =
+opening_agrees : (s : State) (session : ℕ) (name : List ℕ) (mode : Mode) (policy : Policy) (turns : Option ℕ) (latches : List Latch) → Valid s.history s.names → Agrees (opening s session name mode policy turns latches) (opening_now (running_of s) name mode policy turns latches)
+opening_agrees s session name mode policy turns latches v =
     let h : List Entry = s.history in
     let id : ℕ = length (begins h) + 1 in
     let request : Declaration = record { tag = s.line; policy = policy; latches = latches } in
@@ -239,10 +236,10 @@ opening_agrees e b c s session name mode policy turns latches v =
     let own : latches_of (h ++ x ∷ []) id ≡ latches = latches_of_new h id (free_lane h) session mode request new in
     let front : in_front (h ++ x ∷ []) id ≡ h = in_front_new h id (free_lane h) session mode request new in
     let grown : begins (h ++ x ∷ []) ≡ begins h ++ (record { id = id; lane = free_lane h; who = session; mode = mode; request = request }) ∷ [] = begins-append h (x ∷ []) in
-    let valid : Valid (e + 1) (b + 1) c (h ++ x ∷ []) (s.names ++ m ∷ []) = valid_begin e b c h s.names (free_lane h) session mode request m refl refl (stage_first mode) (omega arith) own v in
+    let valid : Valid (h ++ x ∷ []) (s.names ++ m ∷ []) = valid_begin h s.names (free_lane h) session mode request m refl refl (stage_first mode) own v in
     let kept : kept_of (h ++ x ∷ []) m ≡ new_kept (running_of s) name mode policy turns latches =
     kept_made (kept_of (h ++ x ∷ []) m) (new_kept (running_of s) name mode policy turns latches) refl refl refl refl refl refl (stage_first_is mode) refl refl own
-    (ap (λ f. map unlaned (latches_held f)) front ∙ held_same e b c h s.names v) in
+    (ap (λ f. map unlaned (latches_held f)) front ∙ held_same h s.names v) in
     let state : running_of t ≡ with_kept (new_kept (running_of s) name mode policy turns latches) (running_of s) =
     running_made _ _ _ _ _ _ _ _ _ _
     (map-append (kept_of (h ++ x ∷ [])) s.names (m ∷ []) ∙ ap (λ ks. ks ++ kept_of (h ++ x ∷ []) m ∷ []) (kept-append h (x ∷ []) s.names v.begun) ∙ ap (λ k. map (kept_of h) s.names ++ k ∷ []) kept)
@@ -252,15 +249,15 @@ opening_agrees e b c s session name mode policy turns latches v =
     (ap (λ bs. last_writer Local 0 bs) grown ∙ last_writer-push Local 0 (begins h) _) in
     let here : slice_get (s.names ++ m ∷ []) (length (map (kept_of h) s.names)) ≡ Some m =
     ap (λ i. slice_get (s.names ++ m ∷ []) i) (length-map s.names (kept_of h)) ∙ get_push s.names m in
-    let first : Agrees (e + 1 + 1) (b + 1) (c + 1) (first_turn mode m t) (first_turn_now mode (length (map (kept_of h) s.names)) (kept_of (h ++ x ∷ []) m) (running_of t)) =
-    first_turn_agrees (e + 1) (b + 1) c t (length (map (kept_of h) s.names)) m mode here (stage_first mode) valid in
-    let moved : Agrees (e + 1 + 1) (b + 1) (c + 1) (first_turn mode m t) (first_turn_now mode (length (map (kept_of h) s.names)) (new_kept (running_of s) name mode policy turns latches) (with_kept (new_kept (running_of s) name mode policy turns latches) (running_of s))) =
-    subst (λ r. Agrees (e + 1 + 1) (b + 1) (c + 1) (first_turn mode m t) (first_turn_now mode (length (map (kept_of h) s.names)) (new_kept (running_of s) name mode policy turns latches) r)) state
-    (subst (λ k. Agrees (e + 1 + 1) (b + 1) (c + 1) (first_turn mode m t) (first_turn_now mode (length (map (kept_of h) s.names)) k (running_of t))) kept first) in
+    let first : Agrees (first_turn mode m t) (first_turn_now mode (length (map (kept_of h) s.names)) (kept_of (h ++ x ∷ []) m) (running_of t)) =
+    first_turn_agrees t (length (map (kept_of h) s.names)) m mode here (stage_first mode) valid in
+    let moved : Agrees (first_turn mode m t) (first_turn_now mode (length (map (kept_of h) s.names)) (new_kept (running_of s) name mode policy turns latches) (with_kept (new_kept (running_of s) name mode policy turns latches) (running_of s))) =
+    subst (λ r. Agrees (first_turn mode m t) (first_turn_now mode (length (map (kept_of h) s.names)) (new_kept (running_of s) name mode policy turns latches) r)) state
+    (subst (λ k. Agrees (first_turn mode m t) (first_turn_now mode (length (map (kept_of h) s.names)) k (running_of t))) kept first) in
     let listed : before (h ++ x ∷ []) id ≡ prerequisites (map (kept_of h) s.names) latches =
     ap (λ ls. ascending (map (λ (b : Begin). b.id) (filter (λ (b : Begin). some_conflict ls b.request.latches) (held (in_front (h ++ x ∷ []) id))))) own
     ∙ ap (λ f. ascending (map (λ (b : Begin). b.id) (filter (λ (b : Begin). some_conflict latches b.request.latches) (held f)))) front
-    ∙ before_same e b c h s.names latches v in
+    ∙ before_same h s.names latches v in
     record {
       written = ap (λ ks. line m (decimal id ++ codes " before " ++ numbers_text ks) ++ (first_turn mode m t).written) listed
           ∙ ap (λ w. line m (decimal id ++ codes " before " ++ numbers_text (prerequisites (map (kept_of h) s.names) latches)) ++ w) moved.written;
@@ -269,16 +266,16 @@ opening_agrees e b c s session name mode policy turns latches v =
     }
 
 -- metrics
-counts_same : (e b c : ℕ) (h : List Entry) (ns : List Named) (scope : Scope) → Valid e b c h ns → counts_text scope h ≡ counts_now scope (last_writer scope 0 (begins h)) (map (kept_of h) ns)
-counts_same e b c h ns scope v =
-    ap (λ n. codes " read " ++ decimal n ++ codes " pending " ++ decimal (count_latches scope Read (held_among h (from_last_writer scope (begins h)))) ++ codes " write " ++ decimal (count_latches scope Write (held_among h (begins h)))) (count_same e b c h ns scope Read v)
-    ∙ ap (λ n. codes " read " ++ decimal (count_now scope Read (held_from 0 (map (kept_of h) ns))) ++ codes " pending " ++ decimal n ++ codes " write " ++ decimal (count_latches scope Write (held_among h (begins h)))) (pending_same e b c h ns scope v)
-    ∙ ap (λ n. codes " read " ++ decimal (count_now scope Read (held_from 0 (map (kept_of h) ns))) ++ codes " pending " ++ decimal (count_now scope Read (held_from (last_writer scope 0 (begins h)) (map (kept_of h) ns))) ++ codes " write " ++ decimal n) (count_same e b c h ns scope Write v)
+counts_same : (h : List Entry) (ns : List Named) (scope : Scope) → Valid h ns → counts_text scope h ≡ counts_now scope (last_writer scope 0 (begins h)) (map (kept_of h) ns)
+counts_same h ns scope v =
+    ap (λ n. codes " read " ++ decimal n ++ codes " pending " ++ decimal (count_latches scope Read (held_among h (from_last_writer scope (begins h)))) ++ codes " write " ++ decimal (count_latches scope Write (held_among h (begins h)))) (count_same h ns scope Read v)
+    ∙ ap (λ n. codes " read " ++ decimal (count_now scope Read (held_from 0 (map (kept_of h) ns))) ++ codes " pending " ++ decimal n ++ codes " write " ++ decimal (count_latches scope Write (held_among h (begins h)))) (pending_same h ns scope v)
+    ∙ ap (λ n. codes " read " ++ decimal (count_now scope Read (held_from 0 (map (kept_of h) ns))) ++ codes " pending " ++ decimal (count_now scope Read (held_from (last_writer scope 0 (begins h)) (map (kept_of h) ns))) ++ codes " write " ++ decimal n) (count_same h ns scope Write v)
 
-metrics_same : (e b c : ℕ) (s : State) → Valid e b c s.history s.names → metrics_line s.history ≡ metrics_now (running_of s)
-metrics_same e b c s v =
-    ap (λ t. codes "metrics global" ++ t ++ codes " local" ++ counts_text Local s.history ++ codes "\n") (counts_same e b c s.history s.names Global v)
-    ∙ ap (λ t. codes "metrics global" ++ counts_now Global (last_writer Global 0 (begins s.history)) (map (kept_of s.history) s.names) ++ codes " local" ++ t ++ codes "\n") (counts_same e b c s.history s.names Local v)
+metrics_same : (s : State) → Valid s.history s.names → metrics_line s.history ≡ metrics_now (running_of s)
+metrics_same s v =
+    ap (λ t. codes "metrics global" ++ t ++ codes " local" ++ counts_text Local s.history ++ codes "\n") (counts_same s.history s.names Global v)
+    ∙ ap (λ t. codes "metrics global" ++ counts_now Global (last_writer Global 0 (begins s.history)) (map (kept_of s.history) s.names) ++ codes " local" ++ t ++ codes "\n") (counts_same s.history s.names Local v)
 
 -- what is done on a name
 get_none : (h : List Entry) (ns : List Named) (i : ℕ) → slice_get ns i ≡ None → slice_get (map (kept_of h) ns) i ≡ None
@@ -286,36 +283,36 @@ get_none h [] i e = refl
 get_none h (n ∷ ns) zero e = absurd (cc)
 get_none h (n ∷ ns) (suc i) e = get_none h ns i e
 
-place_agrees : (e b c : ℕ) (s : State) (o : Option ℕ) (f : Named → Step) (g : ℕ → Kept → Stepped) → Valid e b c s.history s.names → ((i : ℕ) (n : Named) → slice_get s.names i ≡ Some n → Agrees e b c (f n) (g i (kept_of s.history n))) → Agrees e b c (on_found s (option_and_then (λ i. slice_get s.names i) o) f) (at_place (running_of s) o g)
-place_agrees e b c s None f g v a = silent_agrees e b c s v
-place_agrees e b c s (Some i) f g v a = here (slice_get s.names i) refl
+place_agrees : (s : State) (o : Option ℕ) (f : Named → Step) (g : ℕ → Kept → Stepped) → Valid s.history s.names → ((i : ℕ) (n : Named) → slice_get s.names i ≡ Some n → Agrees (f n) (g i (kept_of s.history n))) → Agrees (on_found s (option_and_then (λ i. slice_get s.names i) o) f) (at_place (running_of s) o g)
+place_agrees s None f g v a = silent_agrees s v
+place_agrees s (Some i) f g v a = here (slice_get s.names i) refl
   where
-    here : (x : Option Named) → slice_get s.names i ≡ x → Agrees e b c (on_found s x f) (at_kept (running_of s) i (slice_get (map (kept_of s.history) s.names) i) g)
-    here None e' = subst (λ k. Agrees e b c (silent s) (at_kept (running_of s) i k g)) (sym (get_none s.history s.names i e')) (silent_agrees e b c s v)
-    here (Some n) e' = subst (λ k. Agrees e b c (f n) (at_kept (running_of s) i k g)) (sym (get-map (kept_of s.history) s.names i n e')) (a i n e')
+    here : (x : Option Named) → slice_get s.names i ≡ x → Agrees (on_found s x f) (at_kept (running_of s) i (slice_get (map (kept_of s.history) s.names) i) g)
+    here None e' = subst (λ k. Agrees (silent s) (at_kept (running_of s) i k g)) (sym (get_none s.history s.names i e')) (silent_agrees s v)
+    here (Some n) e' = subst (λ k. Agrees (f n) (at_kept (running_of s) i k g)) (sym (get-map (kept_of s.history) s.names i n e')) (a i n e')
 
-on_agrees : (e b c : ℕ) (s : State) (name : List ℕ) (f : Named → Step) (g : ℕ → Kept → Stepped) → Valid e b c s.history s.names → ((i : ℕ) (n : Named) → slice_get s.names i ≡ Some n → Agrees e b c (f n) (g i (kept_of s.history n))) → Agrees e b c (on_name s name f) (on_kept (running_of s) name g)
-on_agrees e b c s name f g v a =
-    subst (λ o. Agrees e b c (on_found s o f) (on_kept (running_of s) name g)) (sym (find_by_place (λ (n : Named). same_name n.name name) s.names))
-    (subst (λ o. Agrees e b c (on_found s (option_and_then (λ i. slice_get s.names i) (position (λ (n : Named). same_name n.name name) s.names)) f) (at_place (running_of s) o g)) (sym (position_map (kept_of s.history) (λ (k : Kept). same_name k.name name) s.names))
-    (place_agrees e b c s (position (λ (n : Named). same_name n.name name) s.names) f g v a))
+on_agrees : (s : State) (name : List ℕ) (f : Named → Step) (g : ℕ → Kept → Stepped) → Valid s.history s.names → ((i : ℕ) (n : Named) → slice_get s.names i ≡ Some n → Agrees (f n) (g i (kept_of s.history n))) → Agrees (on_name s name f) (on_kept (running_of s) name g)
+on_agrees s name f g v a =
+    subst (λ o. Agrees (on_found s o f) (on_kept (running_of s) name g)) (sym (find_by_place (λ (n : Named). same_name n.name name) s.names))
+    (subst (λ o. Agrees (on_found s (option_and_then (λ i. slice_get s.names i) (position (λ (n : Named). same_name n.name name) s.names)) f) (at_place (running_of s) o g)) (sym (position_map (kept_of s.history) (λ (k : Kept). same_name k.name name) s.names))
+    (place_agrees s (position (λ (n : Named). same_name n.name name) s.names) f g v a))
 
-pub one_agrees : (e b c : ℕ) (s : State) (command : Command) → Valid e b c s.history s.names → Agrees (e + 1 + 1) (b + 1) (c + 1) (one s command) (one_now (running_of s) command)
-one_agrees e b c s (Open session name mode policy turns latches) v = opening_agrees e b c s session name mode policy turns latches v
-one_agrees e b c s (Wait name) v =
-    on_agrees (e + 1 + 1) (b + 1) (c + 1) s name (λ n. waited n.phase n s) (λ i n. waited_now n.stage i n (running_of s)) (Valid-weaker e b c (e + 1 + 1) (b + 1) (c + 1) s.history s.names (omega arith) (omega arith) (omega arith) v)
-    (λ i n at. weaker (e + 1) b (c + 1) (e + 1 + 1) (b + 1) (c + 1) _ _ (omega arith) (omega arith) (omega arith) (waited_agrees e b c s i n n.phase refl at v))
-one_agrees e b c s (Check name latches) v =
-    on_agrees (e + 1 + 1) (b + 1) (c + 1) s name (λ n. checked n s latches) (λ i n. stepped i (check_now n latches) (running_of s)) (Valid-weaker e b c (e + 1 + 1) (b + 1) (c + 1) s.history s.names (omega arith) (omega arith) (omega arith) v)
-    (λ i n at. weaker e b c (e + 1 + 1) (b + 1) (c + 1) _ _ (omega arith) (omega arith) (omega arith) (checked_agrees e b c s i n latches (position (λ l. not (is_declared (latches_of s.history n.id) l)) latches) refl at v))
-one_agrees e b c s (Poison name) v =
-    on_agrees (e + 1 + 1) (b + 1) (c + 1) s name (λ n. poisoned n s) (λ i n. stepped i (poison_now n) (running_of s)) (Valid-weaker e b c (e + 1 + 1) (b + 1) (c + 1) s.history s.names (omega arith) (omega arith) (omega arith) v)
-    (λ i n at. weaker e b c (e + 1 + 1) (b + 1) (c + 1) _ _ (omega arith) (omega arith) (omega arith) (poisoned_agrees e b c s i n at v))
-one_agrees e b c s (Release name) v =
-    on_agrees (e + 1 + 1) (b + 1) (c + 1) s name (λ n. released n s) (λ i n. released_now i n (running_of s)) (Valid-weaker e b c (e + 1 + 1) (b + 1) (c + 1) s.history s.names (omega arith) (omega arith) (omega arith) v)
-    (λ i n at. weaker (e + 1) b c (e + 1 + 1) (b + 1) (c + 1) _ _ (omega arith) (omega arith) (omega arith) (released_agrees e b c s i n n.phase refl at v))
-one_agrees e b c s Metrics v = record {
-  written = metrics_same e b c s v;
+pub one_agrees : (s : State) (command : Command) → Valid s.history s.names → Agrees (one s command) (one_now (running_of s) command)
+one_agrees s (Open session name mode policy turns latches) v = opening_agrees s session name mode policy turns latches v
+one_agrees s (Wait name) v =
+    on_agrees s name (λ n. waited n.phase n s) (λ i n. waited_now n.stage i n (running_of s)) v
+    (λ i n at. (waited_agrees s i n n.phase refl at v))
+one_agrees s (Check name latches) v =
+    on_agrees s name (λ n. checked n s latches) (λ i n. stepped i (check_now n latches) (running_of s)) v
+    (λ i n at. (checked_agrees s i n latches (position (λ l. not (is_declared (latches_of s.history n.id) l)) latches) refl at v))
+one_agrees s (Poison name) v =
+    on_agrees s name (λ n. poisoned n s) (λ i n. stepped i (poison_now n) (running_of s)) v
+    (λ i n at. (poisoned_agrees s i n at v))
+one_agrees s (Release name) v =
+    on_agrees s name (λ n. released n s) (λ i n. released_now i n (running_of s)) v
+    (λ i n at. (released_agrees s i n n.phase refl at v))
+one_agrees s Metrics v = record {
+  written = metrics_same s v;
   run = refl;
-  valid = Valid-weaker e b c (e + 1 + 1) (b + 1) (c + 1) s.history s.names (omega arith) (omega arith) (omega arith) v;
+  valid = v;
 }

@@ -33,7 +33,7 @@ use Rattle.step_run.proofs.Lists.{head}
 use Rattle.step_run.proofs.Order.{unlaned}
 use Rattle.step_run.proofs.Holding.{blocker_same, poisoned_same}
 use Rattle.step_run.proofs.Places.{Each-at, Each-set, Rising, below_at, map-set}
-use Rattle.step_run.proofs.Standing.{IsAlike, Valid, Valid-weaker, begins_ended, kept-append, kept_of, last_writer, running_of, valid_end, valid_set}
+use Rattle.step_run.proofs.Standing.{IsAlike, Valid, begins_ended, kept-append, kept_of, last_writer, running_of, valid_end, valid_set}
 
 -- a name by its place
 pub replaced_at : (ns : List Named) (i : ℕ) (n m : Named) → slice_get ns i ≡ Some n → m.id ≡ n.id → Rising (map (λ (n : Named). n.id) ns) → replaced m ns ≡ slice_set ns i m
@@ -98,115 +98,106 @@ summary_cancelled h id who turns poison =
     summary_made _ _ _ _ _ _ _ _ _ _ _ _ (ap length (begins_ended h id who Never poison (Cancelled turns))) (not_counted is_granted h x refl) (not_counted is_checked h x refl) (not_counted is_poisoned h x refl) (count_push is_cancelled h x) (not_counted is_never h x refl)
 
 -- What a step of a state does is what happens to what is kept, at a place.
-pub record AgreesAt (e b c : ℕ) (s : State) (i : ℕ) (a : Step) (t : Turned) : Type 0 where
+pub record AgreesAt (s : State) (i : ℕ) (a : Step) (t : Turned) : Type 0 where
   pub written : a.written ≡ t.written
   pub run : running_of a.state ≡ turned_at i t (running_of s)
-  pub valid : Valid e b c a.state.history a.state.names
+  pub valid : Valid a.state.history a.state.names
 
 pub running_made : (ls ls' : List Kept) (e e' : ℕ) (s s' : Summary) (g g' l l' : ℕ) → ls ≡ ls' → e ≡ e' → s ≡ s' → g ≡ g' → l ≡ l' → (let r : Running = record { lives = ls; entries = e; summary = s; global_writer = g; local_writer = l } in r) ≡ record { lives = ls'; entries = e'; summary = s'; global_writer = g'; local_writer = l' }
 running_made ls ls' e e' s s' g g' l l' e0 e1 e2 e3 e4 = cc
 
-pub after_agrees : (e b c : ℕ) (s : State) (i : ℕ) (a : Step) (t : Turned) (text : List ℕ) → AgreesAt e b c s i a t → AgreesAt e b c s i (after text a) (put text t)
-after_agrees e b c s i a t text g = record { written = ap (λ w. text ++ w) g.written; run = g.run; valid = g.valid }
+pub after_agrees : (s : State) (i : ℕ) (a : Step) (t : Turned) (text : List ℕ) → AgreesAt s i a t → AgreesAt s i (after text a) (put text t)
+after_agrees s i a t text g = record { written = ap (λ w. text ++ w) g.written; run = g.run; valid = g.valid }
 
 pub named_lives : (h : List Entry) (ns : List Named) (i : ℕ) (n m : Named) → slice_get ns i ≡ Some n → m.id ≡ n.id → Rising (map (λ (n : Named). n.id) ns) → map (kept_of h) (replaced m ns) ≡ slice_set (map (kept_of h) ns) i (kept_of h m)
 named_lives h ns i n m at a r = ap (λ ms. map (kept_of h) ms) (replaced_at ns i n m at a r) ∙ map-set (kept_of h) ns i m
 
-pub named_agrees : (e b c : ℕ) (s : State) (i : ℕ) (n m : Named) (text : List ℕ) → slice_get s.names i ≡ Some n → IsAlike n m → is_over m.phase ≡ is_over n.phase → m.counted ≤ c → Valid e b c s.history s.names → AgreesAt e b c s i (record { written = text; state = with_name m s }) (record { written = text; live = kept_of s.history m; ending = None })
-named_agrees e b c s i n m text at a o k v = record {
+pub named_agrees : (s : State) (i : ℕ) (n m : Named) (text : List ℕ) → slice_get s.names i ≡ Some n → IsAlike n m → is_over m.phase ≡ is_over n.phase → Valid s.history s.names → AgreesAt s i (record { written = text; state = with_name m s }) (record { written = text; live = kept_of s.history m; ending = None })
+named_agrees s i n m text at a o v = record {
   written = refl;
   run = running_made _ _ _ _ _ _ _ _ _ _ (named_lives s.history s.names i n m at a.id v.rising) (sym (add-zero (length s.history))) refl refl refl;
-  valid = subst (λ ns. Valid e b c s.history ns) (sym (replaced_at s.names i n m at a.id v.rising)) (valid_set e b c s.history s.names i n m at a o k v);
+  valid = subst (λ ns. Valid s.history ns) (sym (replaced_at s.names i n m at a.id v.rising)) (valid_set s.history s.names i n m at a o v);
 }
 
-begun_here : (e b c : ℕ) (h : List Entry) (ns : List Named) (i : ℕ) (n : Named) → slice_get ns i ≡ Some n → Valid e b c h ns → has_begun h n.id ≡ true
-begun_here e b c h ns i n at v = Each-at (λ (n : Named). has_begun h n.id ≡ true) ns i n at v.begun
+begun_here : (h : List Entry) (ns : List Named) (i : ℕ) (n : Named) → slice_get ns i ≡ Some n → Valid h ns → has_begun h n.id ≡ true
+begun_here h ns i n at v = Each-at (λ (n : Named). has_begun h n.id ≡ true) ns i n at v.begun
 
 -- the names after an end
-pub ended_lives : (e b c : ℕ) (h : List Entry) (ns : List Named) (i : ℕ) (n m : Named) (x : Entry) → slice_get ns i ≡ Some n → m.id ≡ n.id → Valid e b c h ns → map (kept_of (h ++ x ∷ [])) (replaced m ns) ≡ slice_set (map (kept_of h) ns) i (kept_of h m)
-ended_lives e b c h ns i n m x at a v =
+pub ended_lives : (h : List Entry) (ns : List Named) (i : ℕ) (n m : Named) (x : Entry) → slice_get ns i ≡ Some n → m.id ≡ n.id → Valid h ns → map (kept_of (h ++ x ∷ [])) (replaced m ns) ≡ slice_set (map (kept_of h) ns) i (kept_of h m)
+ended_lives h ns i n m x at a v =
     ap (λ ms. map (kept_of (h ++ x ∷ [])) ms) (replaced_at ns i n m at a v.rising)
-    ∙ kept-append h (x ∷ []) (slice_set ns i m) (Each-set (λ (n : Named). has_begun h n.id ≡ true) ns i m (ap (λ j. has_begun h j) a ∙ begun_here e b c h ns i n at v) v.begun)
+    ∙ kept-append h (x ∷ []) (slice_set ns i m) (Each-set (λ (n : Named). has_begun h n.id ≡ true) ns i m (ap (λ j. has_begun h j) a ∙ begun_here h ns i n at v) v.begun)
     ∙ map-set (kept_of h) ns i m
 
-pub ended_agrees : (e b c : ℕ) (s : State) (i : ℕ) (n m : Named) (text : List ℕ) (grant : Grant) (fault : Fault) (ending : Ending) → slice_get s.names i ≡ Some n → m.id ≡ n.id → m.counted ≤ c → summary_of (s.history ++ Ended m.id m.session grant m.cause fault ∷ []) ≡ with_ending (Some ending) (summary_of s.history) → Valid e b c s.history s.names → AgreesAt (e + 1) b c s i (record { written = text; state = ended grant fault m s }) (record { written = text; live = record (kept_of s.history m) { stage = stage_over }; ending = Some ending })
-ended_agrees e b c s i n m text grant fault ending at a k q v =
+pub ended_agrees : (s : State) (i : ℕ) (n m : Named) (text : List ℕ) (grant : Grant) (fault : Fault) (ending : Ending) → slice_get s.names i ≡ Some n → m.id ≡ n.id → summary_of (s.history ++ Ended m.id m.session grant m.cause fault ∷ []) ≡ with_ending (Some ending) (summary_of s.history) → Valid s.history s.names → AgreesAt s i (record { written = text; state = ended grant fault m s }) (record { written = text; live = record (kept_of s.history m) { stage = stage_over }; ending = Some ending })
+ended_agrees s i n m text grant fault ending at a q v =
     let over : Named = record m { phase = Over } in
     let x : Entry = Ended m.id m.session grant m.cause fault in
     record {
       written = refl;
-      run = running_made _ _ _ _ _ _ _ _ _ _ (ended_lives e b c s.history s.names i n over x at a v) (length-append s.history (x ∷ [])) q
+      run = running_made _ _ _ _ _ _ _ _ _ _ (ended_lives s.history s.names i n over x at a v) (length-append s.history (x ∷ [])) q
           (ap (λ bs. last_writer Global 0 bs) (begins_ended s.history m.id m.session grant m.cause fault))
           (ap (λ bs. last_writer Local 0 bs) (begins_ended s.history m.id m.session grant m.cause fault));
-      valid = subst (λ ns. Valid (e + 1) b c (s.history ++ x ∷ []) ns) (sym (replaced_at s.names i n over at a v.rising))
-          (subst (λ j. Valid (e + 1) b c (s.history ++ Ended j m.session grant m.cause fault ∷ []) (slice_set s.names i over)) (sym a)
-          (valid_end e b c s.history s.names i n over m.session grant m.cause fault at a refl k v));
+      valid = subst (λ ns. Valid (s.history ++ x ∷ []) ns) (sym (replaced_at s.names i n over at a v.rising))
+          (subst (λ j. Valid (s.history ++ Ended j m.session grant m.cause fault ∷ []) (slice_set s.names i over)) (sym a)
+          (valid_end s.history s.names i n over m.session grant m.cause fault at a refl v));
     }
 
-weaker_at : (e b c e' b' c' : ℕ) (s : State) (i : ℕ) (a : Step) (t : Turned) → e ≤ e' → b ≤ b' → c ≤ c' → AgreesAt e b c s i a t → AgreesAt e' b' c' s i a t
-weaker_at e b c e' b' c' s i a t p q r g = record { written = g.written; run = g.run; valid = Valid-weaker e b c e' b' c' a.state.history a.state.names p q r g.valid }
-
 -- a turn that is spent
-counted_agrees : (e b c : ℕ) (s : State) (i : ℕ) (n m : Named) (turns : ℕ) (t : Bool) → slice_get s.names i ≡ Some n → IsAlike n m → is_over m.phase ≡ is_over n.phase → m.counted ≤ c → Valid e b c s.history s.names → AgreesAt (e + 1) b (c + 1) s i (cond t (record { written = line m (codes "cancelled"); state = ended Never (Cancelled turns) (record m { counted = m.counted + 1 }) s }) (record { written = []; state = with_name (record m { counted = m.counted + 1 }) s })) (cond t (record { written = kept_line (kept_of s.history m) (codes "cancelled"); live = record (kept_of s.history m) { counted = m.counted + 1; stage = stage_over }; ending = Some by_cancel }) (record { written = []; live = record (kept_of s.history m) { counted = m.counted + 1 }; ending = None }))
-counted_agrees e b c s i n m turns true at a o k v =
+counted_agrees : (s : State) (i : ℕ) (n m : Named) (turns : ℕ) (t : Bool) → slice_get s.names i ≡ Some n → IsAlike n m → is_over m.phase ≡ is_over n.phase → Valid s.history s.names → AgreesAt s i (cond t (record { written = line m (codes "cancelled"); state = ended Never (Cancelled turns) (record m { counted = m.counted + 1 }) s }) (record { written = []; state = with_name (record m { counted = m.counted + 1 }) s })) (cond t (record { written = kept_line (kept_of s.history m) (codes "cancelled"); live = record (kept_of s.history m) { counted = m.counted + 1; stage = stage_over }; ending = Some by_cancel }) (record { written = []; live = record (kept_of s.history m) { counted = m.counted + 1 }; ending = None }))
+counted_agrees s i n m turns true at a o v =
     let more : Named = record m { counted = m.counted + 1 } in
-    ended_agrees e b (c + 1) s i n more (line m (codes "cancelled")) Never (Cancelled turns) by_cancel at a.id (omega arith)
-    (summary_cancelled s.history m.id m.session turns m.cause) (Valid-weaker e b c e b (c + 1) s.history s.names (omega arith) (omega arith) (omega arith) v)
-counted_agrees e b c s i n m turns false at a o k v =
+    ended_agrees s i n more (line m (codes "cancelled")) Never (Cancelled turns) by_cancel at a.id
+    (summary_cancelled s.history m.id m.session turns m.cause) v
+counted_agrees s i n m turns false at a o v =
     let more : Named = record m { counted = m.counted + 1 } in
-    weaker_at e b (c + 1) (e + 1) b (c + 1) s i _ _ (omega arith) (omega arith) (omega arith)
-    (named_agrees e b (c + 1) s i n more [] at (record { id = a.id; mode = a.mode }) o (omega arith) (Valid-weaker e b c e b (c + 1) s.history s.names (omega arith) (omega arith) (omega arith) v))
+    (named_agrees s i n more [] at (record { id = a.id; mode = a.mode }) o v)
 
-spent_agrees : (e b c : ℕ) (s : State) (i : ℕ) (n m : Named) (turns : Option ℕ) → slice_get s.names i ≡ Some n → IsAlike n m → is_over m.phase ≡ is_over n.phase → m.counted ≤ c → Valid e b c s.history s.names → AgreesAt (e + 1) b (c + 1) s i (spent_turn m s turns) (spent (kept_of s.history m) turns)
-spent_agrees e b c s i n m None at a o k v =
-    weaker_at e b c (e + 1) b (c + 1) s i _ _ (omega arith) (omega arith) (omega arith) (named_agrees e b c s i n m [] at a o k v)
-spent_agrees e b c s i n m (Some turns) at a o k v = counted_agrees e b c s i n m turns (m.counted + 1 == turns) at a o k v
+spent_agrees : (s : State) (i : ℕ) (n m : Named) (turns : Option ℕ) → slice_get s.names i ≡ Some n → IsAlike n m → is_over m.phase ≡ is_over n.phase → Valid s.history s.names → AgreesAt s i (spent_turn m s turns) (spent (kept_of s.history m) turns)
+spent_agrees s i n m None at a o v =
+    (named_agrees s i n m [] at a o v)
+spent_agrees s i n m (Some turns) at a o v = counted_agrees s i n m turns (m.counted + 1 == turns) at a o v
 
-blocked_agrees : (e b c : ℕ) (s : State) (i : ℕ) (n m : Named) (x : HeldLatch) → slice_get s.names i ≡ Some n → IsAlike n m → is_over m.phase ≡ is_over n.phase → m.counted ≤ c → Valid e b c s.history s.names → AgreesAt (e + 1) b (c + 1) s i (blocked m s x) (blocked_now (kept_of s.history m) (unlaned x))
-blocked_agrees e b c s i n m x at a o k v =
-    after_agrees (e + 1) b (c + 1) s i (spent_turn m s m.turns) (spent (kept_of s.history m) m.turns) (blocked_line m x) (spent_agrees e b c s i n m m.turns at a o k v)
+blocked_agrees : (s : State) (i : ℕ) (n m : Named) (x : HeldLatch) → slice_get s.names i ≡ Some n → IsAlike n m → is_over m.phase ≡ is_over n.phase → Valid s.history s.names → AgreesAt s i (blocked m s x) (blocked_now (kept_of s.history m) (unlaned x))
+blocked_agrees s i n m x at a o v =
+    after_agrees s i (spent_turn m s m.turns) (spent (kept_of s.history m) m.turns) (blocked_line m x) (spent_agrees s i n m m.turns at a o v)
 
 poisoned_again : (k : Kept) → k.poisoned ≡ true → k ≡ record k { poisoned = true }
 poisoned_again k e = ap (λ t. let r : Kept = record k { poisoned = t } in r) e
 
-spreads_agree : (e b c : ℕ) (s : State) (i : ℕ) (n : Named) (x : HeldLatch) (t : Bool) → has_cause n.cause ≡ t → slice_get s.names i ≡ Some n → n.counted ≤ c → Valid e b c s.history s.names → AgreesAt (e + 1) b (c + 1) s i (after (cond t [] (line n (codes "spreads " ++ decimal x.by))) (blocked (cond t n (record n { cause = From x.by })) s x)) (put (cond t [] (kept_line (kept_of s.history n) (codes "spreads " ++ decimal x.by))) (blocked_now (record (kept_of s.history n) { poisoned = true }) (unlaned x)))
-spreads_agree e b c s i n x true f at k v =
-    subst (λ kept. AgreesAt (e + 1) b (c + 1) s i (after [] (blocked n s x)) (put [] (blocked_now kept (unlaned x)))) (poisoned_again (kept_of s.history n) f)
-    (after_agrees (e + 1) b (c + 1) s i (blocked n s x) (blocked_now (kept_of s.history n) (unlaned x)) [] (blocked_agrees e b c s i n n x at (record { id = refl; mode = refl }) refl k v))
-spreads_agree e b c s i n x false f at k v =
+spreads_agree : (s : State) (i : ℕ) (n : Named) (x : HeldLatch) (t : Bool) → has_cause n.cause ≡ t → slice_get s.names i ≡ Some n → Valid s.history s.names → AgreesAt s i (after (cond t [] (line n (codes "spreads " ++ decimal x.by))) (blocked (cond t n (record n { cause = From x.by })) s x)) (put (cond t [] (kept_line (kept_of s.history n) (codes "spreads " ++ decimal x.by))) (blocked_now (record (kept_of s.history n) { poisoned = true }) (unlaned x)))
+spreads_agree s i n x true f at v =
+    subst (λ kept. AgreesAt s i (after [] (blocked n s x)) (put [] (blocked_now kept (unlaned x)))) (poisoned_again (kept_of s.history n) f)
+    (after_agrees s i (blocked n s x) (blocked_now (kept_of s.history n) (unlaned x)) [] (blocked_agrees s i n n x at (record { id = refl; mode = refl }) refl v))
+spreads_agree s i n x false f at v =
     let m : Named = record n { cause = From x.by } in
-    after_agrees (e + 1) b (c + 1) s i (blocked m s x) (blocked_now (kept_of s.history m) (unlaned x)) (line n (codes "spreads " ++ decimal x.by)) (blocked_agrees e b c s i n m x at (record { id = refl; mode = refl }) refl k v)
+    after_agrees s i (blocked m s x) (blocked_now (kept_of s.history m) (unlaned x)) (line n (codes "spreads " ++ decimal x.by)) (blocked_agrees s i n m x at (record { id = refl; mode = refl }) refl v)
 
-by_poisoned_agrees : (e b c : ℕ) (s : State) (i : ℕ) (n : Named) (x : HeldLatch) (policy : Policy) → slice_get s.names i ≡ Some n → n.counted ≤ c → Valid e b c s.history s.names → AgreesAt (e + 1) b (c + 1) s i (by_poisoned policy n s x) (by_poisoned_now policy (kept_of s.history n) (unlaned x))
-by_poisoned_agrees e b c s i n x policy_wait at k v = spreads_agree e b c s i n x (has_cause n.cause) refl at k v
-by_poisoned_agrees e b c s i n x policy_error at k v =
-    weaker_at (e + 1) b c (e + 1) b (c + 1) s i _ _ (omega arith) (omega arith) (omega arith)
-    (ended_agrees e b c s i n n (line n (codes "poisoned " ++ decimal x.by ++ 32 ∷ mark_text x.latch)) Never (Poisoned x.by) by_poison at refl k (summary_poisoned s.history n.id n.session x.by n.cause) v)
+by_poisoned_agrees : (s : State) (i : ℕ) (n : Named) (x : HeldLatch) (policy : Policy) → slice_get s.names i ≡ Some n → Valid s.history s.names → AgreesAt s i (by_poisoned policy n s x) (by_poisoned_now policy (kept_of s.history n) (unlaned x))
+by_poisoned_agrees s i n x policy_wait at v = spreads_agree s i n x (has_cause n.cause) refl at v
+by_poisoned_agrees s i n x policy_error at v =
+    (ended_agrees s i n n (line n (codes "poisoned " ++ decimal x.by ++ 32 ∷ mark_text x.latch)) Never (Poisoned x.by) by_poison at refl (summary_poisoned s.history n.id n.session x.by n.cause) v)
 
-met_agrees : (e b c : ℕ) (s : State) (i : ℕ) (n : Named) (x : HeldLatch) (t : Bool) → slice_get s.names i ≡ Some n → n.counted ≤ c → Valid e b c s.history s.names → AgreesAt (e + 1) b (c + 1) s i (cond t (by_poisoned n.policy n s x) (blocked n s x)) (blocked_by t (kept_of s.history n) (unlaned x))
-met_agrees e b c s i n x true at k v = by_poisoned_agrees e b c s i n x n.policy at k v
-met_agrees e b c s i n x false at k v = blocked_agrees e b c s i n n x at (record { id = refl; mode = refl }) refl k v
+met_agrees : (s : State) (i : ℕ) (n : Named) (x : HeldLatch) (t : Bool) → slice_get s.names i ≡ Some n → Valid s.history s.names → AgreesAt s i (cond t (by_poisoned n.policy n s x) (blocked n s x)) (blocked_by t (kept_of s.history n) (unlaned x))
+met_agrees s i n x true at v = by_poisoned_agrees s i n x n.policy at v
+met_agrees s i n x false at v = blocked_agrees s i n n x at (record { id = refl; mode = refl }) refl v
 
-granted_agrees : (e b c : ℕ) (s : State) (i : ℕ) (n : Named) (mode : Mode) → slice_get s.names i ≡ Some n → is_over n.phase ≡ false → n.counted ≤ c → Valid e b c s.history s.names → AgreesAt (e + 1) b (c + 1) s i (record { written = line n (codes "granted " ++ decimal (length s.history)); state = granted mode n s }) (granted_now mode (kept_of s.history n) (length s.history))
-granted_agrees e b c s i n Acquire at o k v =
-    weaker_at e b c (e + 1) b (c + 1) s i _ _ (omega arith) (omega arith) (omega arith)
-    (named_agrees e b c s i n (record n { phase = Granted (length s.history) }) (line n (codes "granted " ++ decimal (length s.history))) at (record { id = refl; mode = refl }) (sym o) k v)
-granted_agrees e b c s i n optimistic_mode at o k v =
-    weaker_at e b c (e + 1) b (c + 1) s i _ _ (omega arith) (omega arith) (omega arith)
-    (named_agrees e b c s i n (record n { phase = Granted (length s.history) }) (line n (codes "granted " ++ decimal (length s.history))) at (record { id = refl; mode = refl }) (sym o) k v)
-granted_agrees e b c s i n Look at o k v =
-    weaker_at (e + 1) b c (e + 1) b (c + 1) s i _ _ (omega arith) (omega arith) (omega arith)
-    (ended_agrees e b c s i n n (line n (codes "granted " ++ decimal (length s.history))) (Waited (length s.history)) no_fault by_grant at refl k (summary_granted s.history n.id n.session (length s.history) n.cause) v)
+granted_agrees : (s : State) (i : ℕ) (n : Named) (mode : Mode) → slice_get s.names i ≡ Some n → is_over n.phase ≡ false → Valid s.history s.names → AgreesAt s i (record { written = line n (codes "granted " ++ decimal (length s.history)); state = granted mode n s }) (granted_now mode (kept_of s.history n) (length s.history))
+granted_agrees s i n Acquire at o v =
+    (named_agrees s i n (record n { phase = Granted (length s.history) }) (line n (codes "granted " ++ decimal (length s.history))) at (record { id = refl; mode = refl }) (sym o) v)
+granted_agrees s i n optimistic_mode at o v =
+    (named_agrees s i n (record n { phase = Granted (length s.history) }) (line n (codes "granted " ++ decimal (length s.history))) at (record { id = refl; mode = refl }) (sym o) v)
+granted_agrees s i n Look at o v =
+    (ended_agrees s i n n (line n (codes "granted " ++ decimal (length s.history))) (Waited (length s.history)) no_fault by_grant at refl (summary_granted s.history n.id n.session (length s.history) n.cause) v)
 
-decided_agrees : (e b c : ℕ) (s : State) (i : ℕ) (n : Named) (xs : List HeldLatch) → slice_get s.names i ≡ Some n → is_over n.phase ≡ false → n.counted ≤ c → Valid e b c s.history s.names → AgreesAt (e + 1) b (c + 1) s i (decided_by n s xs) (decided_now (kept_of s.history n) (length s.history) (map (kept_of s.history) s.names) (option_map unlaned (head xs)))
-decided_agrees e b c s i n [] at o k v = granted_agrees e b c s i n n.mode at o k v
-decided_agrees e b c s i n (x ∷ xs) at o k v =
-    subst (λ t. AgreesAt (e + 1) b (c + 1) s i (cond (is_poisoned_in s.names x.by) (by_poisoned n.policy n s x) (blocked n s x)) (blocked_by t (kept_of s.history n) (unlaned x)))
-    (poisoned_same s.history s.names x.by) (met_agrees e b c s i n x (is_poisoned_in s.names x.by) at k v)
+decided_agrees : (s : State) (i : ℕ) (n : Named) (xs : List HeldLatch) → slice_get s.names i ≡ Some n → is_over n.phase ≡ false → Valid s.history s.names → AgreesAt s i (decided_by n s xs) (decided_now (kept_of s.history n) (length s.history) (map (kept_of s.history) s.names) (option_map unlaned (head xs)))
+decided_agrees s i n [] at o v = granted_agrees s i n n.mode at o v
+decided_agrees s i n (x ∷ xs) at o v =
+    subst (λ t. AgreesAt s i (cond (is_poisoned_in s.names x.by) (by_poisoned n.policy n s x) (blocked n s x)) (blocked_by t (kept_of s.history n) (unlaned x)))
+    (poisoned_same s.history s.names x.by) (met_agrees s i n x (is_poisoned_in s.names x.by) at v)
 
-pub turn_agrees : (e b c : ℕ) (s : State) (i : ℕ) (n : Named) → slice_get s.names i ≡ Some n → is_over n.phase ≡ false → Valid e b c s.history s.names → AgreesAt (e + 1) b (c + 1) s i (turn n s) (turn_now (kept_of s.history n) (length s.history) (map (kept_of s.history) s.names))
-turn_agrees e b c s i n at o v =
-    subst (λ met. AgreesAt (e + 1) b (c + 1) s i (turn n s) (decided_now (kept_of s.history n) (length s.history) (map (kept_of s.history) s.names) met))
-    (blocker_same e b c s.history s.names n v)
-    (decided_agrees e b c s i n (filter (λ (x : HeldLatch). not (has_ended s.history x.by)) (met s.history n.id (latches_of s.history n.id))) at o
-    (Each-at (λ (n : Named). n.counted ≤ c) s.names i n at v.counted) v)
+pub turn_agrees : (s : State) (i : ℕ) (n : Named) → slice_get s.names i ≡ Some n → is_over n.phase ≡ false → Valid s.history s.names → AgreesAt s i (turn n s) (turn_now (kept_of s.history n) (length s.history) (map (kept_of s.history) s.names))
+turn_agrees s i n at o v =
+    subst (λ met. AgreesAt s i (turn n s) (decided_now (kept_of s.history n) (length s.history) (map (kept_of s.history) s.names) met))
+    (blocker_same s.history s.names n v)
+    (decided_agrees s i n (filter (λ (x : HeldLatch). not (has_ended s.history x.by)) (met s.history n.id (latches_of s.history n.id))) at o v)
