@@ -2,6 +2,7 @@
 use Rattle.std.specs.Prelude.{ℕ, ◌++◌, Bool, true, false, List, [], ◌∷◌, map, length, codes, decimal}
 use Rattle.std.specs.List.{count_by, join_with_byte}
 use Rattle.hlc_stamp.specs.declared.Stamp.{Stamp}
+use Rattle.span_key.specs.Spans.{Pair}
 use Rattle.latch_model.specs.Latches.{normal}
 use Rattle.latch_model.specs.Histories.{begins}
 use Rattle.latch_model.specs.declared.latch.Latch.{Latch}
@@ -11,16 +12,16 @@ use Rattle.latch_model.specs.declared.history.Fault.{Fault}
 use Rattle.latch_model.specs.declared.history.Fault.TheVariants.{None as no_fault, Poisoned, Cancelled}
 use Rattle.latch_model.specs.declared.history.Grant.{Grant}
 use Rattle.latch_model.specs.declared.history.Grant.TheVariants.{Never, Waited, Checked}
-use Rattle.script.specs.Texts.{span_text}
+use Rattle.script.specs.Texts.{span_text, whole_stamp_text}
 use Rattle.report.specs.declared.counts.Summary.{Summary}
 
--- both parts of a stamp
-abbrev pub whole_stamp_text : Stamp → List ℕ
-whole_stamp_text s = 64 ∷ decimal s.wall ++ (46 ∷ decimal s.logical)
+-- A mark is a span, and always both parts of a stamp.
+abbrev pub marked : Pair → Stamp → List ℕ
+marked span stamp = span_text span ++ whole_stamp_text stamp
 
--- A held latch that was met is shown by its span and its normal stamp, whose both parts are always written.
+-- A held latch that was met is shown by its span and its normal stamp.
 abbrev pub mark_text : Latch → List ℕ
-mark_text l = span_text l.span ++ whole_stamp_text (normal l)
+mark_text l = marked l.span (normal l)
 
 -- numbers with commas between them, or a hyphen where there are none
 abbrev pub numbers_text : List ℕ → List ℕ

@@ -1,7 +1,8 @@
 // How many requests began, and how many ended in each way.
 ghost use Rattle.std.specs.Prelude.{◌≡◌, ◌++◌, length, take, decimal, OnOk, OnErr};
 
-use crate::text::{push_number, whole_or_none};
+use crate::text::whole_or_none;
+use script::push_number;
 use span_key::Memory;
 use std::alloc::AllocError;
 

@@ -5,7 +5,7 @@ mod counts;
 mod text;
 
 pub use counts::Summary;
-pub use text::{held_latch_text, latch_text, number_text, numbers_text};
+pub use text::{Mark, held_latch_text, latch_text, mark_text, number_text, numbers_text};
 
 #[cfg(test)]
 mod tests;

@@ -2,20 +2,15 @@
 // memory is refused. The private ones leave that to it: their `out` still begins with what it held.
 ghost use Rattle.std.specs.Prelude.{◌≡◌, ◌≤◌, ◌∷◌, ◌++◌, length, take, decimal, is_ok, OnOk, OnErr};
 ghost use Rattle.std.specs.List.{flat_map};
-ghost use Rattle.hex.specs.Hex.{encode_lower};
+ghost use Rattle.script.specs.Texts.{latch_text};
 ghost use Rattle.span_key.specs.Spans.{key_limit};
-ghost use Rattle.latch_model.specs.Latches.{normal};
-ghost use Rattle.script.specs.Texts.{access_text, latch_text, span_text, stamp_text};
-ghost use Rattle.report.specs.Words.{mark_text, numbers_text, whole_stamp_text};
+ghost use Rattle.report.specs.Words.{mark_text, marked, numbers_text};
 
 use hlc_stamp::Stamp;
-use itoa::Buffer;
-use latch_model::latch::{Access, Latch};
-use span_key::{Memory, Scope, Span};
+use latch_model::latch::Latch;
+use script::{push_after, push_bounds, push_latch, push_number, push_span, push_whole_stamp};
+use span_key::{Memory, SpanRoom};
 use std::alloc::AllocError;
-
-// The digits of the longest key.
-const MOST_DIGITS: usize = 512;
 
 /// Appends a latch as scripts write it: its access, its span and its declared stamp.
 pub fn latch_text(latch: &Latch, out: &mut Vec<u8>) -> Result<(), Memory>
@@ -34,6 +29,26 @@ pub fn held_latch_text(latch: &Latch, out: &mut Vec<u8>) -> Result<(), Memory>
 {
     let before = out.len();
     let pushed = push_mark(latch, out);
+    whole_or_none(pushed, before, out)
+}
+
+/// A held latch that a request met: latch number `place`, from 0, of request `by`, with its span and its normal stamp.
+#[derive(Debug, Drop)]
+pub struct Mark {
+    pub by: u64,
+    pub place: u32,
+    pub span: SpanRoom,
+    pub stamp: Stamp,
+}
+
+/// Appends a mark: its span, and both parts of its stamp.
+pub fn mark_text(mark: &Mark, out: &mut Vec<u8>) -> Result<(), Memory>
+    ensures ok { OnOk result (out.new.items ≡ out.old.items ++ marked mark.now.span mark.now.stamp) }
+    ensures err { OnErr result (out.new.items ≡ out.old.items) }
+{
+    let before = out.len();
+    let end = mark.span.end().unwrap_or(b"");
+    let pushed = push_marked(mark.span.key(), end, mark.stamp, out);
     whole_or_none(pushed, before, out)
 }
 
@@ -74,78 +89,22 @@ pub(crate) fn whole_or_none(
     }
 }
 
-fn push_latch(latch: &Latch, out: &mut Vec<u8>) -> Result<(), AllocError>
-    ensures ok { OnOk result (out.new.items ≡ out.old.items ++ latch_text latch.now) }
-    ensures err { OnErr result (take (length out.old.items) out.new.items ≡ out.old.items) }
-{
-    push_access(latch.access, out)?;
-    push_span(&latch.span, out)?;
-    push_stamp(latch.stamp, out)
-}
-
 fn push_mark(latch: &Latch, out: &mut Vec<u8>) -> Result<(), AllocError>
     ensures ok { OnOk result (out.new.items ≡ out.old.items ++ mark_text latch.now) }
     ensures err { OnErr result (take (length out.old.items) out.new.items ≡ out.old.items) }
 {
     push_span(&latch.span, out)?;
-    push_whole_stamp(normal_stamp(latch), out)
+    push_whole_stamp(latch.normal(), out)
 }
 
-fn push_access(access: Access, out: &mut Vec<u8>) -> Result<(), AllocError>
-    ensures ok { OnOk result (out.new.items ≡ out.old.items ++ access_text access) }
+fn push_marked(key: &[u8], end: &[u8], stamp: Stamp, out: &mut Vec<u8>) -> Result<(), AllocError>
+    requires key { length key.now ≤ key_limit }
+    requires end { length end.now ≤ key_limit }
+    ensures ok { OnOk result (out.new.items ≡ out.old.items ++ marked (key.now, end.now) stamp) }
     ensures err { OnErr result (take (length out.old.items) out.new.items ≡ out.old.items) }
 {
-    match access {
-        Access::Read => out.extend_from_slice(b"r:"),
-        Access::Write => out.extend_from_slice(b"w:"),
-    }
-}
-
-fn push_span(span: &Span, out: &mut Vec<u8>) -> Result<(), AllocError>
-    ensures ok { OnOk result (out.new.items ≡ out.old.items ++ span_text span.now) }
-    ensures err { OnErr result (take (length out.old.items) out.new.items ≡ out.old.items) }
-{
-    push_hex(span.key().bytes(), out)?;
-    if let Some(end) = span.end() {
-        out.push(b'-')?;
-        push_hex(end.bytes(), out)?;
-    }
-    Ok(())
-}
-
-// The declared stamp, of which the empty one and a logical part 0 aren't written.
-fn push_stamp(stamp: Stamp, out: &mut Vec<u8>) -> Result<(), AllocError>
-    ensures ok { OnOk result (out.new.items ≡ out.old.items ++ stamp_text stamp) }
-    ensures err { OnErr result (take (length out.old.items) out.new.items ≡ out.old.items) }
-{
-    if stamp.logical != 0 {
-        return push_whole_stamp(stamp, out);
-    }
-    if stamp.wall != 0 {
-        return push_after(b'@', stamp.wall, out);
-    }
-    Ok(())
-}
-
-fn push_whole_stamp(stamp: Stamp, out: &mut Vec<u8>) -> Result<(), AllocError>
-    ensures ok { OnOk result (out.new.items ≡ out.old.items ++ whole_stamp_text stamp) }
-    ensures err { OnErr result (take (length out.old.items) out.new.items ≡ out.old.items) }
-{
-    push_after(b'@', stamp.wall, out)?;
-    push_after(b'.', u64::from(stamp.logical), out)
-}
-
-// The stamp that counts: the empty one at a local latch, and else the declared one.
-fn normal_stamp(latch: &Latch) -> Stamp
-    ensures { result ≡ normal latch.now }
-{
-    match latch.span.scope() {
-        Scope::Local => Stamp {
-            wall: 0,
-            logical: 0,
-        },
-        Scope::Global => latch.stamp,
-    }
+    push_bounds(key, end, out)?;
+    push_whole_stamp(stamp, out)
 }
 
 fn push_numbers(numbers: &[u64], out: &mut Vec<u8>) -> Result<(), AllocError>
@@ -170,35 +129,4 @@ fn push_others(numbers: &[u64], out: &mut Vec<u8>) -> Result<(), AllocError>
         push_after(b',', *n, out)?;
     }
     Ok(())
-}
-
-// A byte and then a number.
-fn push_after(byte: u8, n: u64, out: &mut Vec<u8>) -> Result<(), AllocError>
-    ensures ok { OnOk result (out.new.items ≡ out.old.items ++ (byte ∷ decimal n)) }
-    ensures err { OnErr result (take (length out.old.items) out.new.items ≡ out.old.items) }
-{
-    out.push(byte)?;
-    push_number(n, out)
-}
-
-pub(crate) fn push_number(n: u64, out: &mut Vec<u8>) -> Result<(), AllocError>
-    ensures ok { OnOk result (out.new.items ≡ out.old.items ++ decimal n) }
-    ensures err { OnErr result (out.new.items ≡ out.old.items) }
-{
-    let mut digits = Buffer::new();
-    out.extend_from_slice(digits.format(n).as_bytes())
-}
-
-// A key in hexadecimal digits.
-fn push_hex(bytes: &[u8], out: &mut Vec<u8>) -> Result<(), AllocError>
-    requires { length bytes.now ≤ key_limit }
-    ensures ok { OnOk result (out.new.items ≡ out.old.items ++ encode_lower bytes.now) }
-    ensures err { OnErr result (out.new.items ≡ out.old.items) }
-{
-    let mut room = [0u8; MOST_DIGITS];
-    let digits = &mut room[..2 * bytes.len()];
-    let Ok(()) = hex::encode_to_slice(bytes, digits) else {
-        unreachable!()
-    };
-    out.extend_from_slice(digits)
 }

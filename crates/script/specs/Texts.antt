@@ -19,6 +19,10 @@ stamp_text s =
     if is_empty_stamp s then [] else
     (if s.logical == 0 then 64 ∷ decimal s.wall else 64 ∷ decimal s.wall ++ (46 ∷ decimal s.logical))
 
+-- both parts of a stamp
+abbrev pub whole_stamp_text : Stamp → List ℕ
+whole_stamp_text s = 64 ∷ decimal s.wall ++ (46 ∷ decimal s.logical)
+
 abbrev pub access_text : Access → List ℕ
 access_text Read = codes "r:"
 access_text Write = codes "w:"

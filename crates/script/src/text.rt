@@ -1,15 +1,14 @@
 // How scripts are spelled.
 ghost use Rattle.std.specs.Prelude.{◌≡◌, ◌∷◌, ◌++◌, [], IfOk, OnOk, codes, decimal, map};
-ghost use Rattle.hex.specs.Hex.{encode_lower};
 ghost use Rattle.script.specs.Commands.{fields_of, line_of, mode_text, policy_text, turns_fields};
 ghost use Rattle.script.specs.Scripts.{text_of};
 ghost use Rattle.script.specs.Spaced.{spaced};
-ghost use Rattle.script.specs.Texts.{access_text, latch_text, span_text, stamp_text};
+ghost use Rattle.script.specs.Texts.{latch_text};
 
 use crate::command::{Command, Name, Script};
-use hlc_stamp::Stamp;
-use latch_model::latch::{Access, Latch, Latches, Mode, Policy};
-use span_key::{Memory, Span};
+use crate::latch_text::push_latch;
+use latch_model::latch::{Latch, Latches, Mode, Policy};
+use span_key::Memory;
 use std::alloc::{AllocError, Global};
 
 impl Script {
@@ -29,14 +28,14 @@ fn spell(alloc: Global, commands: &[Command]) -> Result<Vec<u8>, AllocError>
 {
     let mut out = Vec::from_slice(alloc, b"latch script 1\n")?;
     for command in commands {
-        put_command(alloc, &mut out, command)?;
+        put_command(&mut out, command)?;
     }
     out.extend_from_slice(b"end\n")?;
     Ok(out)
 }
 
 // The line of a command.
-fn put_command(alloc: Global, out: &mut Vec<u8>, command: &Command) -> Result<(), AllocError>
+fn put_command(out: &mut Vec<u8>, command: &Command) -> Result<(), AllocError>
     ensures { OnOk result (out.new.items ≡ out.old.items ++ line_of (fields_of command.now)) }
 {
     match command {
@@ -50,13 +49,13 @@ fn put_command(alloc: Global, out: &mut Vec<u8>, command: &Command) -> Result<()
         } => {
             put_front(out, *mode, *session, name, *policy)?;
             put_turns(out, *turns)?;
-            put_end(alloc, out, latches)
+            put_end(out, latches)
         }
         Command::Wait { name } => put_named(out, b"wait", name),
         Command::Check { name, latches } => {
             out.extend_from_slice(b"check")?;
             put_field(out, name.bytes())?;
-            put_end(alloc, out, latches)
+            put_end(out, latches)
         }
         Command::Poison { name } => put_named(out, b"poison", name),
         Command::Release { name } => put_named(out, b"release", name),
@@ -91,10 +90,10 @@ fn put_front(
 }
 
 // The latches at the end of a line, and its line feed.
-fn put_end(alloc: Global, out: &mut Vec<u8>, latches: &Latches) -> Result<(), AllocError>
+fn put_end(out: &mut Vec<u8>, latches: &Latches) -> Result<(), AllocError>
     ensures { OnOk result (out.new.items ≡ out.old.items ++ (spaced (map latch_text latches.now) ++ 10 ∷ [])) }
 {
-    put_latches(alloc, out, latches.list())?;
+    put_latches(out, latches.list())?;
     out.push(b'\n')?;
     Ok(())
 }
@@ -145,66 +144,12 @@ fn put_turns(out: &mut Vec<u8>, turns: Option<u32>) -> Result<(), AllocError>
 }
 
 // The latches, each with a space in front.
-fn put_latches(alloc: Global, out: &mut Vec<u8>, latches: &[Latch]) -> Result<(), AllocError>
+fn put_latches(out: &mut Vec<u8>, latches: &[Latch]) -> Result<(), AllocError>
     ensures { OnOk result (out.new.items ≡ out.old.items ++ spaced (map latch_text latches.now)) }
 {
     for latch in latches {
         out.push(b' ')?;
-        put_latch(alloc, out, latch)?;
+        push_latch(latch, out)?;
     }
     Ok(())
-}
-
-/// Appends the one spelling of a latch.
-pub fn put_latch(alloc: Global, out: &mut Vec<u8>, latch: &Latch) -> Result<(), AllocError>
-    ensures { OnOk result (out.new.items ≡ out.old.items ++ latch_text latch.now) }
-{
-    out.extend_from_slice(access_word(latch.access))?;
-    put_span(alloc, out, &latch.span)?;
-    put_stamp(out, latch.stamp)
-}
-
-fn access_word(access: Access) -> &'static [u8]
-    ensures { result.now ≡ access_text access }
-{
-    match access {
-        Access::Read => b"r:",
-        Access::Write => b"w:",
-    }
-}
-
-fn put_span(alloc: Global, out: &mut Vec<u8>, span: &Span) -> Result<(), AllocError>
-    ensures { OnOk result (out.new.items ≡ out.old.items ++ span_text span.now) }
-{
-    put_hex(alloc, out, span.key().bytes())?;
-    match span.end() {
-        None => Ok(()),
-        Some(end) => {
-            out.push(b'-')?;
-            put_hex(alloc, out, end.bytes())
-        }
-    }
-}
-
-fn put_hex(alloc: Global, out: &mut Vec<u8>, bytes: &[u8]) -> Result<(), AllocError>
-    ensures { OnOk result (out.new.items ≡ out.old.items ++ encode_lower bytes.now) }
-{
-    let text = hex::encode(alloc, bytes)?;
-    out.extend_from_slice(text.as_bytes())
-}
-
-// The stamp, with an `@` in front of it. Nothing for the empty one.
-fn put_stamp(out: &mut Vec<u8>, stamp: Stamp) -> Result<(), AllocError>
-    ensures { OnOk result (out.new.items ≡ out.old.items ++ stamp_text stamp) }
-{
-    if stamp.wall == 0 && stamp.logical == 0 {
-        return Ok(());
-    }
-    out.push(b'@')?;
-    out.extend_from_slice(itoa::Buffer::new().format(stamp.wall).as_bytes())?;
-    if stamp.logical == 0 {
-        return Ok(());
-    }
-    out.push(b'.')?;
-    out.extend_from_slice(itoa::Buffer::new().format(stamp.logical).as_bytes())
 }
