@@ -234,6 +234,108 @@ fn checks_looks_and_metrics(rt: HostRuntime) -> Result<(), Fail> {
 }
 
 #[test]
+fn poison_spreads_and_stays(rt: HostRuntime) -> Result<(), Fail> {
+    let alloc = rt.alloc();
+    // the poison goes through three waiters, and each is granted when the one before it has ended
+    writes(
+        &rt,
+        alloc,
+        "acquire 1 a wait w:61\npoison a\nacquire 2 b wait w:61-63\nacquire 3 c wait w:62-65\nacquire 4 d wait w:64-67\nrelease a\nwait b\nrelease b\nwait c\nrelease c\nwait d\nrelease d\n",
+        "a 1 before -\na granted 1\na poisons\nb 2 before 1\nb spreads 1\nb blocked 1 61@0.0\nc 3 before 2\nc spreads 2\nc blocked 2 61-63@0.0\nd 4 before 3\nd spreads 3\nd blocked 3 62-65@0.0\na ended\nb granted 5\nb ended\nc granted 6\nc ended\nd granted 7\nd ended\nrequests 4 granted 4 checked 0 poisoned 0 cancelled 0 never 0\n",
+    )?;
+    // a call after a spread writes nothing: the cause that is there stays
+    writes(
+        &rt,
+        alloc,
+        "acquire 1 a wait w:61\npoison a\nacquire 2 b wait w:61\npoison b\nrelease a\nwait b\npoison b\nrelease b\n",
+        "a 1 before -\na granted 1\na poisons\nb 2 before 1\nb spreads 1\nb blocked 1 61@0.0\na ended\nb granted 3\nb ended\nrequests 2 granted 2 checked 0 poisoned 0 cancelled 0 never 0\n",
+    )?;
+    // a call before: the poison of the other spreads no more
+    writes(
+        &rt,
+        alloc,
+        "acquire 1 a wait w:61\nacquire 2 b wait w:61\npoison b\npoison a\nwait b\nrelease a\nrelease b\n",
+        "a 1 before -\na granted 1\nb 2 before 1\nb blocked 1 61@0.0\nb poisons\na poisons\nb blocked 1 61@0.0\na ended\nb ended\nrequests 2 granted 1 checked 0 poisoned 0 cancelled 0 never 1\n",
+    )?;
+    // a wait after the cancellation does nothing
+    writes(
+        &rt,
+        alloc,
+        "acquire 1 a wait w:61\nacquire 2 b wait turns=1 w:61\nwait b\nrelease b\nrelease a\n",
+        "a 1 before -\na granted 1\nb 2 before 1\nb blocked 1 61@0.0\nb cancelled\nb ended\na ended\nrequests 2 granted 1 checked 0 poisoned 0 cancelled 1 never 0\n",
+    )?;
+    // the turns run out at the turn in which the poison spreads
+    writes(
+        &rt,
+        alloc,
+        "acquire 1 a wait w:61\npoison a\nacquire 2 b wait turns=1 w:61\nrelease b\nrelease a\n",
+        "a 1 before -\na granted 1\na poisons\nb 2 before 1\nb spreads 1\nb blocked 1 61@0.0\nb cancelled\nb ended\na ended\nrequests 2 granted 1 checked 0 poisoned 0 cancelled 1 never 0\n",
+    )?;
+    // a request that is released while it is blocked holds nothing any more
+    writes(
+        &rt,
+        alloc,
+        "acquire 1 a wait w:61\nacquire 2 b wait w:61\nrelease b\nacquire 2 c wait w:61\nrelease a\nwait c\nrelease c\n",
+        "a 1 before -\na granted 1\nb 2 before 1\nb blocked 1 61@0.0\nb ended\nc 3 before 1\nc blocked 1 61@0.0\na ended\nc granted 5\nc ended\nrequests 3 granted 2 checked 0 poisoned 0 cancelled 0 never 1\n",
+    )?;
+    Ok(())
+}
+
+#[test]
+fn checks_pass_meet_or_are_undeclared(rt: HostRuntime) -> Result<(), Fail> {
+    let alloc = rt.alloc();
+    // after a check that met it waits on the same snapshot
+    writes(
+        &rt,
+        alloc,
+        "acquire 1 a wait w:70\noptimistic 2 b wait r:61-7a\ncheck b r:70\nwait b\nrelease a\nwait b\nrelease b\n",
+        "a 1 before -\na granted 1\nb 2 before 1\nb met 1 70@0.0\nb blocked 1 70@0.0\na ended\nb granted 3\nb ended\nrequests 2 granted 2 checked 0 poisoned 0 cancelled 0 never 0\n",
+    )?;
+    // a check of nothing passes
+    writes(
+        &rt,
+        alloc,
+        "optimistic 1 a wait r:61\ncheck a\nrelease a\n",
+        "a 1 before -\na clear\na ended\nrequests 1 granted 0 checked 1 poisoned 0 cancelled 0 never 0\n",
+    )?;
+    // an undeclared check leaves the passed one, and one that met clears it
+    writes(
+        &rt,
+        alloc,
+        "acquire 1 a wait w:70\noptimistic 2 b wait r:61-7a\ncheck b r:61\ncheck b w:61\nrelease b\noptimistic 2 c wait r:61-7a\ncheck c r:61\ncheck c r:70\nrelease c\nrelease a\n",
+        "a 1 before -\na granted 1\nb 2 before 1\nb clear\nb undeclared 0\nb ended\nc 3 before 1\nc clear\nc met 1 70@0.0\nc ended\na ended\nrequests 3 granted 1 checked 1 poisoned 0 cancelled 0 never 1\n",
+    )?;
+    // no key is between 61 and 6100, so that range lies in the single key
+    writes(
+        &rt,
+        alloc,
+        "optimistic 1 a wait r:61\ncheck a r:61-6100\nrelease a\n",
+        "a 1 before -\na clear\na ended\nrequests 1 granted 0 checked 1 poisoned 0 cancelled 0 never 0\n",
+    )?;
+    // stamps do not count at local latches, and count at global ones
+    writes(
+        &rt,
+        alloc,
+        "optimistic 1 a wait r:01ff@5 r:61@5\ncheck a r:01ff@9 r:61@5\ncheck a r:01ff r:61@9\nrelease a\n",
+        "a 1 before -\na clear\na undeclared 1\na ended\nrequests 1 granted 0 checked 1 poisoned 0 cancelled 0 never 0\n",
+    )?;
+    Ok(())
+}
+
+#[test]
+fn metrics_between_looks(rt: HostRuntime) -> Result<(), Fail> {
+    let alloc = rt.alloc();
+    // a look that reads flushes nothing, one that writes flushes the pending reads and holds nothing
+    writes(
+        &rt,
+        alloc,
+        "acquire 1 a wait r:61\nmetrics\nlook 2 b wait r:61\nmetrics\nlook 3 c wait w:70\nmetrics\nacquire 4 d wait r:62\nmetrics\nrelease a\nmetrics\nrelease b\nrelease c\nrelease d\n",
+        "a 1 before -\na granted 1\nmetrics global read 1 pending 1 write 0 local read 0 pending 0 write 0\nb 2 before -\nb granted 2\nmetrics global read 1 pending 1 write 0 local read 0 pending 0 write 0\nc 3 before -\nc granted 4\nmetrics global read 1 pending 0 write 0 local read 0 pending 0 write 0\nd 4 before -\nd granted 6\nmetrics global read 2 pending 1 write 0 local read 0 pending 0 write 0\na ended\nmetrics global read 1 pending 1 write 0 local read 0 pending 0 write 0\nb ended\nc ended\nd ended\nrequests 4 granted 4 checked 0 poisoned 0 cancelled 0 never 0\n",
+    )?;
+    Ok(())
+}
+
+#[test]
 fn each_status_has_its_line(rt: HostRuntime) -> Result<(), Fail> {
     let alloc = rt.alloc();
     // the first read fails, and a later one

@@ -1,7 +1,7 @@
 use super::*;
 use hlc_stamp::Stamp;
 use latch_model::latch::{Access, Latch};
-use span_key::{Key, Span};
+use span_key::{Key, Span, SpanRoom};
 use std::alloc::Global;
 use std::test::Fail;
 
@@ -133,5 +133,28 @@ fn the_last_line_has_six_counts(rt: HostRuntime) -> Result<(), Fail> {
         out.as_slice(),
         b"requests 15 granted 1 checked 2 poisoned 3 cancelled 4 never 5\n".as_slice()
     );
+    Ok(())
+}
+
+#[test]
+fn a_mark_is_shown_by_its_span_and_both_parts_of_its_stamp(rt: HostRuntime) -> Result<(), Fail> {
+    let alloc = rt.alloc();
+    let mut span = SpanRoom::roomy(alloc)?;
+    span.refill(b"a", b"c");
+    let mut mark = Mark {
+        by: 1,
+        place: 0,
+        span,
+        stamp: Stamp {
+            wall: 7,
+            logical: 0,
+        },
+    };
+    let mut out = Vec::new(alloc);
+    mark_text(&mark, &mut out)?;
+    mark.span.refill(b"a", b"");
+    mark.stamp = Stamp::EMPTY;
+    mark_text(&mark, &mut out)?;
+    assert!(rt; out.as_slice() == b"61-63@7.061@0.0".as_slice());
     Ok(())
 }
