@@ -9,3 +9,4 @@ pub mod Turning
 pub mod Stepping
 pub mod Seeing
 pub mod Runs
+pub mod LastLine

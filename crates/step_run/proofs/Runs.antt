@@ -1,5 +1,5 @@
 -- The commands of a script one after another.
-use Rattle.std.proofs.Common.{◌≡◌, ℕ, zero, suc, ◌+◌, ◌<◌, ◌≤◌, List, [], ◌∷◌, ◌++◌, length, take, get_or, refl, sym, ap, ◌∙◌, arith}
+use Rattle.std.proofs.Common.{◌≡◌, ℕ, ◌+◌, ◌<◌, ◌≤◌, List, [], ◌∷◌, ◌++◌, length, take, get_or, refl, sym, ap, ◌∙◌, arith}
 use Rattle.std.proofs.lemmas.List.{append-nil, append_assoc, take_more}
 use Rattle.script.specs.declared.command.Command.{Command}
 use Rattle.step_run.specs.State.{State, start}
@@ -53,9 +53,3 @@ stands_next cs i c r new out more l e s h =
           ∙ ap (λ w. written_by (take i cs) ++ w) (sym next.written ∙ sym (append-nil (one (reached (take i cs)) c).written))
           ∙ sym (ap (λ (t : Step). t.written) pushed);
     }
-
-pub take_whole : {X : Type 0} (xs : List X) (i : ℕ) → length xs ≤ i → take i xs ≡ xs
-take_whole [] zero l = refl
-take_whole [] (suc i) l = refl
-take_whole (x ∷ xs) zero l = absurd (omega arith)
-take_whole (x ∷ xs) (suc i) l = ap (λ ys. x ∷ ys) (take_whole xs i (omega arith))

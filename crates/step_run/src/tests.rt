@@ -1,5 +1,5 @@
 //! Scripts and what the step run of each writes.
-use crate::run_step;
+use crate::{last_line, run_step};
 use script::read_script;
 use std::test::Fail;
 
@@ -349,6 +349,7 @@ fn each_script_writes_its_output(rt: HostRuntime) -> Result<(), Fail> {
         let script = read_script(rt.alloc(), text.as_bytes())?;
         let out = run_step(rt.alloc(), &script)?;
         assert_eq!(rt; out.as_slice(), output.as_bytes(), "{commands}");
+        assert!(rt; last_line(out.as_slice()).starts_with(b"requests "), "{commands}");
     }
     Ok(())
 }
