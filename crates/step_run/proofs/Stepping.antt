@@ -35,7 +35,7 @@ use Rattle.step_run.proofs.Order.{unlaned}
 use Rattle.step_run.proofs.Growing.{begins-append, in_front_new, latches_of_new}
 use Rattle.step_run.proofs.Meeting.{captured_declared, meeting}
 use Rattle.step_run.proofs.Holding.{before_same, count_same, held_same, over_stage_is, pending_same}
-use Rattle.step_run.proofs.Places.{Each-at, find_by_place, get-map, position_map, get-set, get_push, map-remove, remove-set, set_same}
+use Rattle.step_run.proofs.Places.{find_by_place, get-map, position_map, get-set, get_push, map-remove, remove-set, set_same}
 use Rattle.step_run.proofs.Standing.{Valid, begins_ended, kept-append, kept_of, last_writer, running_of, stage_of, valid_begin, valid_end, valid_remove, valid_set}
 use Rattle.step_run.proofs.Turning.{AgreesAt, named_agrees, named_lives, not_counted, replaced_at, running_made, summary_checked, summary_granted, summary_made, summary_never, turn_agrees, without_at}
 
