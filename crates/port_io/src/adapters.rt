@@ -8,7 +8,7 @@ use crate::devices::{Failed, Sink, Source};
 use std::io::{Read, Write};
 use std::marker::Model;
 
-/// A reader as a source. It counts the reader's errors.
+/// A reader as a source. It counts the reader's errors, an interrupted read among them.
 #[derive(Drop)]
 pub struct ReadSource<R> {
     inner: R,

@@ -1,9 +1,8 @@
 //! Sources and sinks over memory, for tests and for callers that need no device. Which calls fail is
 //! told at the start.
 
-ghost use Rattle.std.specs.Prelude.{◌≡◌, ℕ, ◌+◌, ◌-◌, ◌<◌, ◌≤◌, ◌||◌, ◌++◌, min, List, [], length, take, drop, nat_eq, Some, IfOk, OnErr, is_err, vec_len, vec_capacity};
-ghost use Rattle.std.specs.Io.KnownBytes.{Appends, Consumes, IsAtEnd, Keeps};
-ghost use Rattle.port_io.specs.Devices.{CountsFault, next_count};
+ghost use Rattle.std.specs.Prelude.{◌≡◌, ◌-◌, ◌<◌, ◌≤◌, ◌||◌, ◌++◌, min, [], length, take, drop, nat_eq, Some, IfOk, OnErr, is_err, vec_capacity};
+ghost use Rattle.port_io.specs.Devices.{next_count};
 ghost use Rattle.port_io.specs.Memory.{is_listed};
 
 use crate::devices::{Failed, Sink, Source};

@@ -1,9 +1,9 @@
 //! A whole input, read at once up to a limit, and a piece, written whole.
 
-ghost use Rattle.std.specs.Prelude.{◌≡◌, ℕ, ◌+◌, ◌^◌, ◌<◌, ◌≤◌, List, [], length, take, drop, Some, IfOk, OnOk, OnErr, IfSome, IsErrOf, vec_len};
+ghost use Rattle.std.specs.Prelude.{◌≡◌, ◌+◌, ◌^◌, ◌<◌, ◌≤◌, [], length, take, drop, Some, IfOk, OnOk, OnErr, IfSome, IsErrOf, vec_len};
 ghost use Rattle.std.specs.Io.KnownBytes.{Appends, Consumes, IsAtEnd, Keeps};
 ghost use Rattle.port_io.specs.Devices.{AppendsPart, CountsFault, TakesAtMost, TakesMoreThan};
-ghost use Rattle.port_io.specs.declared.transfers.ReadFault.TheVariants.{Failed as failed, Memory as memory, TooLong as too_long};
+ghost use Rattle.port_io.specs.declared.transfers.ReadFault.TheVariants.{Failed as failed, Memory as memory};
 
 use crate::devices::{Failed, Sink, Source};
 use std::alloc::{AllocError, Global};

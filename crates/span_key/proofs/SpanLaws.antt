@@ -98,3 +98,28 @@ overlap_answer r s t s_ok t_ok e = let law = overlap_is s t s_ok t_ok in (λ h. 
 
 pub lies_in_answer : (r : Bool) (s t : Pair) → IsSpan s → IsSpan t → r ≡ lies_in s t → IsTrue r ↔ LiesIn s t
 lies_in_answer r s t s_ok t_ok e = let law = lies_in_is s t s_ok t_ok in (λ h. law.0 (sym e ∙ h), λ w. e ∙ law.1 w)
+
+pub overlap-swap : (s t : Pair) → overlap s t ≡ overlap t s
+overlap-swap s t = by (key_lt s.0 (past t)) (key_lt t.0 (past s))
+  where
+    by : (a b : Bool) → (a && b) ≡ (b && a)
+    by true true = refl
+    by true false = refl
+    by false true = refl
+    by false false = refl
+
+-- what overlaps a part of a span overlaps the span
+pub overlap-wider : (s t u : Pair) → IsTrue (lies_in s t) → IsTrue (overlap s u) → IsTrue (overlap t u)
+overlap-wider s t u part meet =
+    let inside = both (key_le t.0 s.0) (key_le (past s) (past t)) part in
+    let near = both (key_lt s.0 (past u)) (key_lt u.0 (past s)) meet in
+    and (key_lt t.0 (past u)) (key_lt u.0 (past t)) (KeyLess-up_to_less t.0 s.0 (past u) inside.0 near.0) (KeyLess-less_up_to u.0 (past s) (past t) near.1 inside.1)
+
+pub lies_in-itself : (s : Pair) → IsTrue (lies_in s s)
+lies_in-itself s = and (key_le s.0 s.0) (key_le (past s) (past s)) (KeyUpTo-itself s.0) (KeyUpTo-itself (past s))
+
+pub lies_in-trans : (s t u : Pair) → IsTrue (lies_in s t) → IsTrue (lies_in t u) → IsTrue (lies_in s u)
+lies_in-trans s t u h g =
+    let a = both (key_le t.0 s.0) (key_le (past s) (past t)) h in
+    let b = both (key_le u.0 t.0) (key_le (past t) (past u)) g in
+    and (key_le u.0 s.0) (key_le (past s) (past u)) (KeyUpTo-trans u.0 t.0 s.0 b.0 a.0) (KeyUpTo-trans (past s) (past t) (past u) a.1 b.1)

@@ -14,3 +14,6 @@ pub use keys::{Key, KeyFault, Memory};
 pub use room::SpanRoom;
 pub use scopes::Scope;
 pub use spans::{Reversed, Span};
+
+#[cfg(test)]
+mod tests;

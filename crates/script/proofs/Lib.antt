@@ -1,0 +1,13 @@
+pub mod Parts
+pub mod Numbers
+pub mod Loop
+pub mod Choices
+pub mod Kept
+pub mod Ascii
+pub mod Busy
+pub mod Drafts
+pub mod Maps
+pub mod Noted
+pub mod Laws
+pub mod Walked
+pub mod Spelled

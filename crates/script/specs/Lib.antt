@@ -1,0 +1,13 @@
+pub mod Texts
+pub mod Commands
+pub mod Scripts
+pub mod Fields
+pub mod Lines
+pub mod Reading
+pub mod Views
+pub mod Spaced
+pub mod Names
+pub mod Outcomes
+pub mod Generated
+pub mod Follows
+pub mod Worked

@@ -1,0 +1,120 @@
+// Commands and scripts.
+ghost use Rattle.std.specs.Prelude.{◌≡◌, ◌↔◌, IsTrue, IfSome, IfNone, IfOk, IfErr, length};
+ghost use Rattle.script.specs.declared.fault.FieldFault.TheVariants.{Memory};
+
+use crate::fault::FieldFault;
+use latch_model::latch::{Latches, Mode, Policy};
+use std::alloc::Global;
+use std::marker::Model;
+
+/// The name of a request in a script: a lower-case letter and then at most 15 lower-case letters and digits.
+#[derive(Debug, Drop)]
+pub struct Name {
+    text: String,
+}
+
+impl Model for Name {
+    ghost use Rattle.std.specs.Prelude.{ℕ, List};
+
+    ghost Value = { List ℕ };
+
+    ghost use Rattle.std.specs.String.{string_bytes};
+
+    ghost view = { λ n. string_bytes n.text };
+}
+
+impl Name {
+    ghost use Rattle.script.specs.Scripts.{is_name};
+
+    // The name with these bytes.
+    pub(crate) fn new(alloc: Global, bytes: &[u8]) -> Result<Name, FieldFault>
+        requires { IsTrue (is_name bytes.now) }
+        ensures made { IfOk result (λ n. n ≡ bytes.now) }
+        ensures refused { IfErr result (λ e. e ≡ Memory) }
+    {
+        match str::from_utf8(bytes) {
+            Ok(text) => Ok(Name {
+                text: String::from_str(alloc, text)?,
+            }),
+            Err(_) => unreachable!(),
+        }
+    }
+
+    /// The bytes of the name, which are ASCII.
+    pub fn bytes(&self) -> &[u8]
+        ensures { result.now ≡ self.now }
+    {
+        self.text.as_bytes()
+    }
+
+    pub fn as_str(&self) -> &str
+        ensures { result.now ≡ self.now }
+    {
+        self.text.as_str()
+    }
+}
+
+/// One command of a script.
+#[derive(Debug, Drop)]
+pub enum Command {
+    Begin {
+        session: u32,
+        name: Name,
+        mode: Mode,
+        policy: Policy,
+        turns: Option<u32>,
+        latches: Latches,
+    },
+    Wait {
+        name: Name,
+    },
+    Check {
+        name: Name,
+        latches: Latches,
+    },
+    Poison {
+        name: Name,
+    },
+    Release {
+        name: Name,
+    },
+    Metrics,
+}
+
+/// Commands that keep the rules of scripts. Command number i, from 0, stands on line i + 2.
+#[derive(Drop)]
+pub struct Script {
+    commands: Vec<Command>,
+}
+
+impl Model for Script {
+    ghost use Rattle.std.specs.Prelude.{List};
+    ghost use Rattle.script.specs.declared.command.Command.{Command};
+
+    ghost Value = { List Command };
+
+    ghost use Rattle.script.specs.Scripts.{IsScript};
+
+    ghost view = { λ s. s.commands.items };
+
+    ghost invariant = { λ s. IsScript s.commands.items };
+}
+
+impl Script {
+    ghost use Rattle.script.specs.Scripts.{IsScript};
+
+    // The script of these commands.
+    pub(crate) fn of(commands: Vec<Command>) -> Script
+        requires { IsScript commands.items }
+        ensures { result ≡ commands.items }
+    {
+        Script { commands }
+    }
+
+    /// The commands in their order.
+    pub fn commands(&self) -> &[Command]
+        ensures { result.now ≡ self.now }
+    {
+        self.commands.as_slice()
+    }
+}

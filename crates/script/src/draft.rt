@@ -1,0 +1,253 @@
+// The commands of a script that have been read so far, with what the rules over names and sessions ask of them.
+ghost use Rattle.std.specs.Prelude.{◌≡◌, ◌≤◌, ◌<◌, [], ◌∷◌, ◌++◌, IfOk, IfErr, IfSome, List, OnOk, Some, None, false, if◌then◌else◌, option_map, slice_set, true, ℕ};
+ghost use Rattle.std.specs.BTreeMap.{get_by_text};
+ghost use Rattle.std.specs.List.{list_any};
+ghost use Rattle.script.specs.Commands.{is_busy, is_checkable, is_live, is_used, live_cause, rule_cause, same_name, some_live};
+ghost use Rattle.script.specs.Names.{Follows, Keeps, ended, find, is_optimistic, waits};
+ghost use Rattle.script.specs.declared.fault.FieldFault.TheVariants.{Memory};
+ghost use Rattle.script.specs.Reading.{ok_unless};
+ghost use Rattle.script.specs.Outcomes.{Gives};
+ghost use Rattle.script.specs.Scripts.{IsCommand};
+
+use crate::command::{Command, Name};
+use crate::fault::FieldFault;
+use latch_model::latch::Mode;
+use std::alloc::Global;
+use std::collections::BTreeMap;
+
+// A name that was opened: for which session, whether by `optimistic`, and whether it has had a `wait` or been released since.
+#[derive(Clone, Copy, Debug)]
+struct Opened {
+    session: u32,
+    optimistic: bool,
+    waited: bool,
+    released: bool,
+}
+
+/// The commands so far, what is known of each name in them, and which sessions, by their numbers, have a live name.
+#[derive(Drop)]
+pub(crate) struct Draft {
+    commands: Vec<Command>,
+    opened: BTreeMap<String, Opened>,
+    busy: [bool; 65],
+}
+
+impl Draft {
+    pub(crate) fn new(alloc: Global) -> Draft
+        ensures commands { result.commands.items ≡ [] }
+        ensures kept { Keeps result }
+    {
+        Draft {
+            commands: Vec::new(alloc),
+            opened: BTreeMap::new(alloc),
+            busy: [false; 65],
+        }
+    }
+
+    /// These commands and one more, or the cause for which it may not follow them.
+    pub(crate) fn with(mut self, alloc: Global, command: Command) -> Result<Draft, FieldFault>
+        requires kept { Keeps self }
+        requires fits { IsCommand command }
+        ensures commands { Gives (λ d. d.commands.items) result (ok_unless (rule_cause self.commands.items command) (self.commands.items ++ command ∷ [])) }
+        ensures kept { IfOk result Keeps }
+    {
+        if let Some(cause) = self.cause(&command) {
+            return Err(FieldFault::Bad { cause });
+        }
+        self.note(alloc, &command)?;
+        self.commands.push(command)?;
+        Ok(self)
+    }
+
+    pub(crate) fn into_commands(self) -> Vec<Command>
+        ensures { result ≡ self.commands }
+    {
+        let Draft {
+            commands,
+            opened: _,
+            busy: _,
+        } = self;
+        commands
+    }
+
+    // Whether some name is live.
+    pub(crate) fn has_live(&self) -> bool
+        requires { Keeps self.now }
+        ensures { result ≡ some_live self.now.commands.items }
+    {
+        any(&self.busy)
+    }
+
+    // What is known of a name.
+    fn known(&self, name: &Name) -> Option<Opened>
+        ensures { result ≡ find self.now name.now }
+    {
+        self.opened.get(name.as_str()).copied()
+    }
+
+    // The cause for which a command may not follow.
+    fn cause(&self, command: &Command) -> Option<u32>
+        requires kept { Keeps self.now }
+        requires fits { IsCommand command.now }
+        ensures { result ≡ rule_cause self.now.commands.items command.now }
+    {
+        match command {
+            Command::Begin { session, name, .. } => self.opening_cause(*session, name),
+            Command::Wait { name } | Command::Poison { name } | Command::Release { name } => {
+                self.live_cause(name)
+            }
+            Command::Check { name, .. } => self.check_cause(name),
+            Command::Metrics => None,
+        }
+    }
+
+    fn opening_cause(&self, session: u32, name: &Name) -> Option<u32>
+        requires kept { Keeps self.now }
+        requires low { session ≤ 64 }
+        ensures { result ≡ (if is_busy self.now.commands.items session then Some 12 else (if is_used self.now.commands.items name.now then Some 13 else None)) }
+    {
+        if self.busy[session as usize] {
+            Some(12)
+        } else if self.known(name).is_some() {
+            Some(13)
+        } else {
+            None
+        }
+    }
+
+    fn live_cause(&self, name: &Name) -> Option<u32>
+        requires { Keeps self.now }
+        ensures { result ≡ live_cause self.now.commands.items name.now }
+    {
+        match self.known(name) {
+            Some(opened) if !opened.released => None,
+            _ => Some(14),
+        }
+    }
+
+    fn check_cause(&self, name: &Name) -> Option<u32>
+        requires { Keeps self.now }
+        ensures { result ≡ (if is_live self.now.commands.items name.now then (if is_checkable self.now.commands.items name.now then None else Some 15) else Some 14) }
+    {
+        match self.known(name) {
+            Some(opened) if !opened.released => {
+                if opened.optimistic && !opened.waited {
+                    None
+                } else {
+                    Some(15)
+                }
+            }
+            _ => Some(14),
+        }
+    }
+
+    // What a command changes, but for the list of commands.
+    fn note(&mut self, alloc: Global, command: &Command) -> Result<(), FieldFault>
+        requires kept { Keeps self.old }
+        requires fits { IsCommand command.now }
+        requires allowed { rule_cause self.old.commands.items command.now ≡ None }
+        ensures same { self.new.commands ≡ self.old.commands }
+        ensures follows { OnOk result (Follows self.new (self.old.commands.items ++ command.now ∷ [])) }
+        ensures refused { IfErr result (λ e. e ≡ Memory) }
+    {
+        match command {
+            Command::Begin {
+                session,
+                name,
+                mode,
+                ..
+            } => self.open(alloc, name, Opened::fresh(*session, *mode)),
+            Command::Wait { name } => {
+                self.wait(name);
+                Ok(())
+            }
+            Command::Release { name } => {
+                self.release(name);
+                Ok(())
+            }
+            Command::Check { .. } => Ok(()),
+            Command::Poison { .. } => Ok(()),
+            Command::Metrics => Ok(()),
+        }
+    }
+
+    // A name is opened, and its session is busy.
+    fn open(&mut self, alloc: Global, name: &Name, opened: Opened) -> Result<(), FieldFault>
+        requires { opened.session ≤ 64 }
+        ensures same { self.new.commands ≡ self.old.commands }
+        ensures opened { OnOk result ((q : List ℕ) → find self.new q ≡ (if same_name name.now q then Some opened else find self.old q)) }
+        ensures busy { OnOk result (self.new.busy ≡ slice_set self.old.busy opened.session true) }
+        ensures refused { IfErr result (λ e. e ≡ Memory) }
+    {
+        let text = String::from_str(alloc, name.as_str())?;
+        self.opened.insert(text, opened)?;
+        self.busy[opened.session as usize] = true;
+        Ok(())
+    }
+
+    // A name has had a wait.
+    fn wait(&mut self, name: &Name)
+        ensures same { self.new.commands ≡ self.old.commands }
+        ensures opened { (q : List ℕ) → find self.new q ≡ (if same_name name.now q then option_map waits (find self.old q) else find self.old q) }
+        ensures busy { self.new.busy ≡ self.old.busy }
+    {
+        mark_waited(&mut self.opened, name.as_str());
+    }
+
+    // A name is released, and its session isn't busy any more.
+    fn release(&mut self, name: &Name)
+        requires { IfSome (find self.old name.now) (λ o. o.session ≤ 64) }
+        ensures same { self.new.commands ≡ self.old.commands }
+        ensures opened { (q : List ℕ) → find self.new q ≡ (if same_name name.now q then option_map ended (find self.old q) else find self.old q) }
+        ensures busy { IfSome (find self.old name.now) (λ o. self.new.busy ≡ slice_set self.old.busy o.session false) }
+    {
+        if let Some(session) = mark_released(&mut self.opened, name.as_str()) {
+            self.busy[session as usize] = false;
+        }
+    }
+}
+
+impl Opened {
+    // A name that has just been opened.
+    fn fresh(session: u32, mode: Mode) -> Opened
+        ensures { result ≡ record { session = session; optimistic = is_optimistic mode; waited = false; released = false } }
+    {
+        Opened {
+            session,
+            optimistic: match mode {
+                Mode::Acquire | Mode::Look => false,
+                Mode::Optimistic => true,
+            },
+            waited: false,
+            released: false,
+        }
+    }
+}
+
+fn mark_waited(opened: &mut BTreeMap<String, Opened>, name: &str)
+    ensures { (q : List ℕ) → get_by_text opened.new q ≡ (if same_name name.now q then option_map waits (get_by_text opened.old q) else get_by_text opened.old q) }
+{
+    if let Some(known) = opened.get_mut(name) {
+        known.waited = true;
+    }
+}
+
+// Answers the name's session.
+fn mark_released(opened: &mut BTreeMap<String, Opened>, name: &str) -> Option<u32>
+    ensures opened { (q : List ℕ) → get_by_text opened.new q ≡ (if same_name name.now q then option_map ended (get_by_text opened.old q) else get_by_text opened.old q) }
+    ensures session { result ≡ option_map (λ o. o.session) (get_by_text opened.old name.now) }
+{
+    match opened.get_mut(name) {
+        None => None,
+        Some(known) => {
+            known.released = true;
+            Some(known.session)
+        }
+    }
+}
+
+fn any(flags: &[bool]) -> bool
+    ensures { result ≡ list_any (λ b. b) flags.now }
+{
+    flags.iter().any(|b| *b)
+}

@@ -1,0 +1,21 @@
+//! Scripts of requests: their commands, how they are read, with each fault named, and how they are spelled.
+#![tactic(auto)]
+
+pub mod command;
+mod draft;
+pub mod fault;
+mod field;
+mod latch_text;
+mod line;
+mod read;
+pub mod spelling;
+mod text;
+
+pub use field::read_latch;
+pub use latch_text::{
+    push_after, push_bounds, push_latch, push_number, push_span, push_whole_stamp,
+};
+pub use read::read_script;
+
+#[cfg(test)]
+mod tests;

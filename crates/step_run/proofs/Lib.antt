@@ -1,0 +1,12 @@
+pub mod Lists
+pub mod Order
+pub mod Growing
+pub mod Meeting
+pub mod Places
+pub mod Standing
+pub mod Holding
+pub mod Turning
+pub mod Stepping
+pub mod Seeing
+pub mod Runs
+pub mod LastLine

@@ -1,0 +1,5 @@
+pub mod State
+pub mod Steps
+pub mod Running
+pub mod Views
+pub mod Lines

@@ -1,0 +1,156 @@
+// What an opened request has to wait for, and the counts of metrics.
+ghost use Rattle.std.specs.Prelude.{◌≡◌, ◌+◌, ◌++◌, ◌&&◌, map, not, IfOk, OnOk};
+ghost use Rattle.std.specs.List.{count_by, list_any, position};
+ghost use Rattle.latch_model.specs.Latches.{conflict, has_access, in_scope, some_conflict};
+ghost use Rattle.step_run.specs.Steps.{is_declared};
+ghost use Rattle.step_run.specs.Running.{count_now, counts_now, held_from, holds_now, prerequisites, stage_at_first, writes_here};
+ghost use Rattle.step_run.specs.Views.{seen_live};
+
+use crate::lines::{count_text, put};
+use crate::live::{Live, Stage, holds, is_over};
+use crate::turn::one_more;
+use latch_model::latch::{Access, Latch, Mode, conflicts, lies_in};
+use span_key::{Memory, Scope};
+use std::alloc::Global;
+
+/// The numbers of the requests that hold a latch which conflicts with one of these.
+pub(crate) fn prerequisites(
+    alloc: Global,
+    lives: &[Live],
+    latches: &[Latch],
+) -> Result<Vec<u64>, Memory>
+    ensures { IfOk result (λ before. before.items ≡ prerequisites (map seen_live lives.now) latches.now) }
+{
+    let mut before = Vec::new(alloc);
+    for live in lives {
+        if holds_latches(live)
+            && have_conflict(latches, live.latches)
+            && before.push(live.id).is_err()
+        {
+            return Err(Memory);
+        }
+    }
+    Ok(before)
+}
+
+/// Whether a request is open and holds its latches.
+pub(crate) fn holds_latches(live: &Live) -> bool
+    ensures { result ≡ holds_now (seen_live live.now) }
+{
+    holds(live.mode) && !is_over(live.stage)
+}
+
+/// Whether some latch has this scope and writes.
+pub(crate) fn has_write(latches: &[Latch], scope: Scope) -> bool
+    ensures { result ≡ writes_here scope latches.now }
+{
+    for latch in latches {
+        if latch.span.scope() == scope && latch.access == Access::Write {
+            return true;
+        }
+    }
+    false
+}
+
+/// The place of the first latch that lies in no declared one.
+pub(crate) fn undeclared(declared: &[Latch], asked: &[Latch]) -> Option<usize>
+    ensures { result ≡ position (λ l. not (is_declared declared.now l)) asked.now }
+{
+    for (i, ask) in asked.iter().enumerate() {
+        if !is_declared(declared, ask) {
+            return Some(i);
+        }
+    }
+    None
+}
+
+/// The stage of a request that has been opened.
+pub(crate) fn first_stage(mode: Mode) -> Stage
+    ensures { result ≡ stage_at_first mode }
+{
+    match mode {
+        Mode::Acquire | Mode::Look => Stage::Pending,
+        Mode::Optimistic => Stage::Optimistic,
+    }
+}
+
+/// How many reads of a scope are held, how many of these are pending, and how many writes are held. A read is pending where its request
+/// began no earlier than the last one that has a write in the scope, whose number is `writer`.
+pub(crate) fn counts_text(
+    lives: &[Live],
+    scope: Scope,
+    writer: u64,
+    out: &mut Vec<u8>,
+) -> Result<(), Memory>
+    ensures { OnOk result (out.new.items ≡ out.old.items ++ counts_now scope writer (map seen_live lives.now)) }
+{
+    count_text(b" read ", count_held(lives, scope, Access::Read, 0)?, out)?;
+    count_text(
+        b" pending ",
+        count_held(lives, scope, Access::Read, writer)?,
+        out,
+    )?;
+    count_text(b" write ", count_held(lives, scope, Access::Write, 0)?, out)
+}
+
+// How many latches of a scope and access are held by requests with no lower number than this.
+fn count_held(lives: &[Live], scope: Scope, access: Access, least: u64) -> Result<u64, Memory>
+    ensures { IfOk result (λ n. n ≡ count_now scope access (held_from least (map seen_live lives.now))) }
+{
+    let mut count = 0;
+    for live in lives {
+        if holds_latches(live) && least <= live.id {
+            count = add_latches(count, live.latches, scope, access)?;
+        }
+    }
+    Ok(count)
+}
+
+// A count with the latches of a scope and access.
+fn add_latches(before: u64, latches: &[Latch], scope: Scope, access: Access) -> Result<u64, Memory>
+    ensures { IfOk result (λ n. n ≡ before + count_by (λ l. in_scope scope l && has_access access l) latches.now) }
+{
+    let mut count = before;
+    for latch in latches {
+        if latch.span.scope() == scope && latch.access == access {
+            count = one_more(count)?;
+        }
+    }
+    Ok(count)
+}
+
+// Whether some latch of the one list conflicts with some latch of the other.
+fn have_conflict(latches: &[Latch], others: &[Latch]) -> bool
+    ensures { result ≡ some_conflict latches.now others.now }
+{
+    for latch in latches {
+        if has_conflict(latch, others) {
+            return true;
+        }
+    }
+    false
+}
+
+// Whether a latch conflicts with some latch of a list.
+fn has_conflict(latch: &Latch, others: &[Latch]) -> bool
+    ensures { result ≡ list_any (conflict latch.now) others.now }
+{
+    for other in others {
+        if conflicts(latch, other) {
+            return true;
+        }
+    }
+    false
+}
+
+// Whether a latch lies in some latch of a list.
+fn is_declared(declared: &[Latch], ask: &Latch) -> bool
+    ensures { result ≡ is_declared declared.now ask.now }
+{
+    for latch in declared {
+        if lies_in(ask, latch) {
+            return true;
+        }
+    }
+    false
+}
