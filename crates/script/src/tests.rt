@@ -244,7 +244,7 @@ fn a_latch_field(rt: HostRuntime) -> Result<(), Fail> {
         }
     );
     let mut text = Vec::new(alloc);
-    put_latch(alloc, &mut text, &latch)?;
+    push_latch(&latch, &mut text)?;
     assert_eq!(rt; text.as_slice(), b"w:61".as_slice());
     match read_latch(alloc, b"w:6") {
         Err(FieldFault::Bad { cause }) => assert_eq!(rt; cause, 8),
