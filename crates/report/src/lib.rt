@@ -3,6 +3,7 @@
 
 mod counts;
 mod text;
+pub mod worked;
 
 pub use counts::Summary;
 pub use text::{Mark, held_latch_text, latch_text, mark_text, number_text, numbers_text};

@@ -2,7 +2,6 @@
 ghost use Rattle.std.specs.Prelude.{◌≡◌, ◌<◌, length, map, IfSome};
 ghost use Rattle.std.specs.List.{position};
 ghost use Rattle.std.specs.Option.{option_map};
-ghost use Rattle.latch_model.specs.Histories.{holds_latches};
 ghost use Rattle.script.specs.Commands.{same_name};
 ghost use Rattle.step_run.specs.Running.{is_open_among, is_over_stage, is_poisoned_among, poisoned_met};
 ghost use Rattle.step_run.specs.Views.{seen_held, seen_live};
@@ -61,16 +60,6 @@ pub(crate) fn is_over(stage: Stage) -> bool
     match stage {
         Stage::Optimistic | Stage::Pending | Stage::Granted => false,
         Stage::Over => true,
-    }
-}
-
-/// Whether requests of this mode hold their latches.
-pub(crate) fn holds(mode: Mode) -> bool
-    ensures { result ≡ holds_latches mode }
-{
-    match mode {
-        Mode::Acquire | Mode::Optimistic => true,
-        Mode::Look => false,
     }
 }
 

@@ -1,15 +1,16 @@
 // What an opened request has to wait for, and the counts of metrics.
 ghost use Rattle.std.specs.Prelude.{◌≡◌, ◌+◌, ◌++◌, ◌&&◌, map, not, IfOk, OnOk};
-ghost use Rattle.std.specs.List.{count_by, list_any, position};
-ghost use Rattle.latch_model.specs.Latches.{conflict, has_access, in_scope, some_conflict};
+ghost use Rattle.std.specs.List.{count_by, position};
+ghost use Rattle.latch_model.specs.Latches.{has_access, in_scope};
 ghost use Rattle.step_run.specs.Steps.{is_declared};
 ghost use Rattle.step_run.specs.Running.{count_now, counts_now, held_from, holds_now, prerequisites, stage_at_first, writes_here};
 ghost use Rattle.step_run.specs.Views.{seen_live};
 
 use crate::lines::{count_text, put};
-use crate::live::{Live, Stage, holds, is_over};
+use crate::live::{Live, Stage, is_over};
 use crate::turn::one_more;
-use latch_model::latch::{Access, Latch, Mode, conflicts, lies_in};
+use latch_model::latch::{Access, Latch, Mode, lies_in};
+use latch_model::prerequisites::{holds, some_conflict};
 use span_key::{Memory, Scope};
 use std::alloc::Global;
 
@@ -24,7 +25,7 @@ pub(crate) fn prerequisites(
     let mut before = Vec::new(alloc);
     for live in lives {
         if holds_latches(live)
-            && have_conflict(latches, live.latches)
+            && some_conflict(latches, live.latches)
             && before.push(live.id).is_err()
         {
             return Err(Memory);
@@ -117,30 +118,6 @@ fn add_latches(before: u64, latches: &[Latch], scope: Scope, access: Access) -> 
         }
     }
     Ok(count)
-}
-
-// Whether some latch of the one list conflicts with some latch of the other.
-fn have_conflict(latches: &[Latch], others: &[Latch]) -> bool
-    ensures { result ≡ some_conflict latches.now others.now }
-{
-    for latch in latches {
-        if has_conflict(latch, others) {
-            return true;
-        }
-    }
-    false
-}
-
-// Whether a latch conflicts with some latch of a list.
-fn has_conflict(latch: &Latch, others: &[Latch]) -> bool
-    ensures { result ≡ list_any (conflict latch.now) others.now }
-{
-    for other in others {
-        if conflicts(latch, other) {
-            return true;
-        }
-    }
-    false
 }
 
 // Whether a latch lies in some latch of a list.

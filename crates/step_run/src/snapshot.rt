@@ -6,8 +6,9 @@ ghost use Rattle.latch_model.specs.Histories.{comes_first, those_of};
 ghost use Rattle.step_run.specs.Running.{earlier, first_for, first_in, first_in_scope, first_met, first_waiting, held_now, meets, placed};
 ghost use Rattle.step_run.specs.Views.{can_meet, seen_held, seen_live};
 
-use crate::live::{Held, Live, holds, is_open, is_over};
+use crate::live::{Held, Live, is_open, is_over};
 use latch_model::latch::{Access, Latch, conflicts};
+use latch_model::prerequisites::holds;
 use span_key::{Memory, Scope, Span};
 use std::alloc::Global;
 use std::cmp::Ordering;
