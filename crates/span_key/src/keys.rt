@@ -4,9 +4,8 @@ ghost use Rattle.std.specs.Prelude.{◌≡◌, ℕ, ◌≤◌, ◌<◌, length, 
 use std::alloc::Global;
 use std::marker::Model;
 
-/// Memory was refused.
-#[derive(Clone, Copy, Debug)]
-pub struct Memory;
+/// Memory was refused. It is std's own type under the name that each crate here uses, so `?` hands on every refusal of std's.
+pub use std::alloc::AllocError as Memory;
 
 /// Why a key wasn't made.
 #[derive(Debug, Drop)]
