@@ -8,7 +8,7 @@ use Rattle.std.proofs.lemmas.Bool.{le-leb, lt-leb, lt-ltb}
 use Rattle.span_key.specs.declared.scopes.Scope.{Scope}
 use Rattle.span_key.specs.declared.scopes.Scope.TheVariants.{Global, Local}
 use Rattle.latch_model.specs.Latches.{has_access, in_scope, some_conflict}
-use Rattle.latch_model.specs.Histories.{Begin, HeldLatch, ascending, begins, has_begun, has_ended, held, holds_latches, in_front, latches_held, latches_held_by, latches_of, met, open_begins, those_of, with_number}
+use Rattle.latch_model.specs.Histories.{Begin, HeldLatch, ascending, begins, has_begun, has_ended, held, holds_latches, in_front, latches_held, latches_held_by, latches_of, listed, met, open_begins, those_of, with_number}
 use Rattle.latch_model.specs.declared.latch.Access.{Access}
 use Rattle.latch_model.specs.declared.latch.Access.TheVariants.{Read, Write}
 use Rattle.latch_model.specs.declared.latch.Latch.{Latch}
@@ -175,12 +175,18 @@ first_waiting_agree q r xs ls e =
     let d : first_met q xs (those_of Local Write ls) ≡ first_met r xs (those_of Local Write ls) = part Local Write in
     cc
 
-pub blocker_same : (h : List Entry) (ns : List Named) (n : Named) → Valid h ns → option_map unlaned (head (filter (λ (x : HeldLatch). not (has_ended h x.by)) (met h n.id (latches_of h n.id)))) ≡ blocker (kept_of h n) (map (kept_of h) ns)
+pub blocker_same : (h : List Entry) (ns : List Named) (n : Named) → Valid h ns →
+    option_map unlaned (head (filter (λ (x : HeldLatch). not (has_ended h x.by)) (met h n.id (latches_of h n.id)))) ≡
+    option_map listed (blocker (kept_of h n) (map (kept_of h) ns))
 blocker_same h ns n v =
     meeting h n.id (λ j. not (has_ended h j)) (latches_of h n.id) (captured_own (latches_of h n.id))
-    ∙ first_waiting_agree (λ (x : HeldLatch). not (has_ended h x.by)) (λ (x : HeldLatch). is_open_among (map (kept_of h) ns) x.by) (map unlaned (latches_held (in_front h n.id))) (latches_of h n.id)
+    ∙ ap (λ o. option_map listed o)
+    (first_waiting_agree (λ (x : HeldLatch). not (has_ended h x.by)) (λ (x : HeldLatch). is_open_among (map (kept_of h) ns) x.by) held_before (latches_of h n.id)
     (Each-map (λ (x : HeldLatch). has_begun h x.by ≡ true) (λ (x : HeldLatch). not (has_ended h x.by) ≡ is_open_among (map (kept_of h) ns) x.by)
-    (λ x t. sym (open_same h ns x.by v ∙ ap (λ b. b && not (has_ended h x.by)) t)) (map unlaned (latches_held (in_front h n.id))) (front_begun h n.id))
+    (λ x t. sym (open_same h ns x.by v ∙ ap (λ b. b && not (has_ended h x.by)) t)) held_before (front_begun h n.id)))
+  where
+    held_before : List HeldLatch
+    held_before = map unlaned (latches_held (in_front h n.id))
 
 -- counts
 sum_by-map : {X Y : Type 0} (f : Y → ℕ) (g : X → Y) (xs : List X) → sum_by f (map g xs) ≡ sum_by (λ x. f (g x)) xs

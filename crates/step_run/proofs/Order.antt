@@ -8,7 +8,7 @@ use Rattle.std.specs.Ordering.{nat_cmp, on, then_cmp, ordering_then, is_lt, is_g
 use Rattle.std.specs.declared.cmp.Ordering.{Ordering}
 use Rattle.std.specs.declared.cmp.Ordering.TheVariants.{Less, Equal, Greater}
 use Rattle.std.proofs.lemmas.Cmp.{nat_cmp_total, nat_list_cmp_total, on_total, then_total, upto}
-use Rattle.latch_model.specs.Histories.{HeldLatch, comes_first, decided, in_order, with_latch}
+use Rattle.latch_model.specs.Histories.{HeldLatch, comes_first, decided, in_order, listed, with_latch}
 use Rattle.step_run.specs.Running.{earlier, first_of}
 use Rattle.step_run.proofs.Lists.{Each, Each-filter, Each-map, head}
 
@@ -139,15 +139,22 @@ head-in_order (x ∷ xs) = head_with x (in_order xs) ∙ ap (λ o. Some (earlier
 abbrev pub unlaned : HeldLatch → HeldLatch
 unlaned x = record { by = x.by; lane = 0; place = x.place; latch = x.latch }
 
-cond_unlaned : (x y : HeldLatch) (b : Bool) → cond b (unlaned y) (unlaned x) ≡ unlaned (cond b y x)
-cond_unlaned x y true = refl
-cond_unlaned x y false = refl
+-- What keeps the order keeps which latch is the first.
+pub first_of-map : (f : HeldLatch → HeldLatch) → ((x y : HeldLatch) → comes_first (f x) (f y) ≡ comes_first x y) → (xs : List HeldLatch) →
+    first_of (map f xs) ≡ option_map f (first_of xs)
+first_of-map f same [] = refl
+first_of-map f same (x ∷ xs) = ap (λ o. Some (earlier (f x) o)) (first_of-map f same xs) ∙ ap Some (by (first_of xs))
+  where
+    chosen : (y : HeldLatch) (b : Bool) → cond b (f y) (f x) ≡ f (cond b y x)
+    chosen y true = refl
+    chosen y false = refl
 
-earlier_unlaned : (x : HeldLatch) (o : Option HeldLatch) → earlier (unlaned x) (option_map unlaned o) ≡ unlaned (earlier x o)
-earlier_unlaned x None = refl
-earlier_unlaned x (Some y) = cond_unlaned x y (comes_first y x)
+    by : (o : Option HeldLatch) → earlier (f x) (option_map f o) ≡ f (earlier x o)
+    by None = refl
+    by (Some y) = ap (λ b. cond b (f y) (f x)) (same y x) ∙ chosen y (comes_first y x)
 
 pub first_of-unlaned : (xs : List HeldLatch) → first_of (map unlaned xs) ≡ option_map unlaned (first_of xs)
-first_of-unlaned [] = refl
-first_of-unlaned (x ∷ xs) =
-    ap (λ o. Some (earlier (unlaned x) o)) (first_of-unlaned xs) ∙ ap Some (earlier_unlaned x (first_of xs))
+first_of-unlaned xs = first_of-map unlaned (λ x y. refl) xs
+
+pub first_of-listed : (xs : List HeldLatch) → first_of (map listed xs) ≡ option_map listed (first_of xs)
+first_of-listed xs = first_of-map listed (λ x y. refl) xs

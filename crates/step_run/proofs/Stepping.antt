@@ -9,7 +9,7 @@ use Rattle.span_key.specs.declared.scopes.Scope.{Scope}
 use Rattle.span_key.specs.declared.scopes.Scope.TheVariants.{Global, Local}
 use Rattle.latch_model.specs.Declaration.{Declaration}
 use Rattle.latch_model.specs.Latches.{some_conflict}
-use Rattle.latch_model.specs.Histories.{Begin, HeldLatch, ascending, before, begins, free_lane, has_begun, held, in_front, latches_held, latches_of, met}
+use Rattle.latch_model.specs.Histories.{Begin, HeldLatch, ascending, before, begins, free_lane, has_begun, held, in_front, latches_held, latches_of, listed, met}
 use Rattle.latch_model.specs.declared.latch.Access.TheVariants.{Read, Write}
 use Rattle.latch_model.specs.declared.latch.Latch.{Latch}
 use Rattle.latch_model.specs.declared.latch.Mode.{Mode}
@@ -37,7 +37,7 @@ use Rattle.step_run.proofs.Meeting.{captured_declared, meeting}
 use Rattle.step_run.proofs.Holding.{before_same, count_same, held_same, over_stage_is, pending_same}
 use Rattle.step_run.proofs.Places.{find_by_place, get-map, position_map, get-set, get_push, map-remove, remove-set, set_same}
 use Rattle.step_run.proofs.Standing.{Valid, begins_ended, kept-append, kept_of, last_writer, running_of, stage_of, valid_begin, valid_end, valid_remove, valid_set}
-use Rattle.step_run.proofs.Turning.{AgreesAt, named_agrees, named_lives, not_counted, replaced_at, running_made, summary_checked, summary_granted, summary_made, summary_never, turn_agrees, without_at}
+use Rattle.step_run.proofs.Turning.{AgreesAt, mark-listed, named_agrees, named_lives, not_counted, replaced_at, running_made, summary_checked, summary_granted, summary_made, summary_never, turn_agrees, without_at}
 
 -- What a command does to a state is what it does to what is kept.
 pub record Agrees (a : Step) (t : Stepped) : Type 0 where
@@ -110,12 +110,22 @@ all_declared ls asked e =
     (none_passes (λ l. not (is_declared ls l)) asked
     (no_place (position_or_len (λ l. not (is_declared ls l)) asked) (length asked) (nat_lt (position_or_len (λ l. not (is_declared ls l)) asked) (length asked)) refl e))
 
+checked-listed : (k : Kept) (o : Option HeldLatch) → checked_against k (option_map listed o) ≡ checked_against k o
+checked-listed k None = refl
+checked-listed k (Some x) = ap met_one (mark-listed x)
+  where
+    met_one : List ℕ → Turned
+    met_one text = record { written = kept_line k (codes "met " ++ decimal x.by ++ 32 ∷ text); live = record k { passed = false }; ending = None }
+
 checked_agrees : (s : State) (i : ℕ) (n : Named) (asked : List Latch) (o : Option ℕ) → position (λ l. not (is_declared (latches_of s.history n.id) l)) asked ≡ o → slice_get s.names i ≡ Some n → Valid s.history s.names → Agrees (checked_unless o n s asked) (stepped i (checked_now (kept_of s.history n) asked o) (running_of s))
 checked_agrees s i n asked (Some index) p at v = same_agrees s i n (line n (codes "undeclared " ++ decimal index)) at v
 checked_agrees s i n asked None p at v =
-    subst (λ o. Agrees (met_first n s asked (met s.history n.id asked)) (stepped i (checked_against (kept_of s.history n) o) (running_of s)))
+    let own : List Latch = latches_of s.history n.id in
+    subst (λ t. Agrees (met_first n s asked (met s.history n.id asked)) (stepped i t (running_of s)))
+    (ap (λ o. checked_against (kept_of s.history n) o)
     (ap (λ xs. option_map unlaned (head xs)) (sym (filter_true (met s.history n.id asked)))
-    ∙ meeting s.history n.id (λ j. true) asked (captured_declared (latches_of s.history n.id) asked (all_declared (latches_of s.history n.id) asked p)))
+    ∙ meeting s.history n.id (λ j. true) asked (captured_declared own asked (all_declared own asked p)))
+    ∙ checked-listed (kept_of s.history n) _)
     (met_first_agrees s i n asked (met s.history n.id asked) at v)
 
 -- poison
