@@ -13,10 +13,12 @@ use Rattle.latch_model.specs.declared.latch.Access.{Access}
 use Rattle.latch_model.specs.declared.latch.Access.TheVariants.{Read, Write}
 use Rattle.latch_model.specs.declared.latch.Latch.{Latch}
 use Rattle.latch_model.specs.declared.history.Entry.{Entry}
-use Rattle.step_run.specs.State.{Granted, Named, Optimistic, Over, Pending, Phase, has_cause, is_poisoned_in}
-use Rattle.step_run.specs.Steps.{count_latches, from_last_writer, held_among, is_over, writes_in}
+use Rattle.latch_model.specs.Checks.{has_cause}
+use Rattle.step_run.specs.State.{Granted, Named, Optimistic, Over, Pending, Phase, is_poisoned_in}
+use Rattle.latch_model.specs.Metrics.{count_latches, from_last_writer, held_among, held_count, pending_count, writes_in}
+use Rattle.step_run.specs.Steps.{is_over}
 use Rattle.step_run.specs.Running.{Kept, blocker, count_now, first_in, first_met, first_of, first_waiting, held_from, held_now, holds_now, is_open_among, is_open_now, is_over_stage, is_poisoned_among, meets, placed, prerequisites}
-use Rattle.step_run.proofs.Lists.{Each, Each-filter, Each-flat_map, Each-map, filter-filter, filter-map, filter_agree_each, filter_no, filter_yes, flat_map-map, flat_map_agree, head, list_any-filter, list_any-map, list_any_agree, map-flat_map, map-map}
+use Rattle.latch_model.proofs.Elements.{Each, Each-filter, Each-flat_map, Each-map, filter-filter, filter-map, filter_agree_each, filter_no, filter_yes, flat_map-map, flat_map_agree, head, list_any-filter, list_any-map, list_any_agree, map-flat_map, map-map}
 use Rattle.step_run.proofs.Order.{unlaned}
 use Rattle.step_run.proofs.Growing.{begun_in_front, open_is}
 use Rattle.step_run.proofs.Meeting.{captured_own, meeting}
@@ -215,9 +217,10 @@ filter_low : (bs : List Begin) → filter (λ (x : Begin). nat_le 0 x.id) bs ≡
 filter_low [] = refl
 filter_low (b ∷ bs) = filter_yes (λ (x : Begin). nat_le 0 x.id) b bs (le-leb 0 b.id (omega arith)) ∙ ap (λ us. b ∷ us) (filter_low bs)
 
-pub count_same : (h : List Entry) (ns : List Named) (scope : Scope) (access : Access) → Valid h ns → count_latches scope access (held_among h (begins h)) ≡ count_now scope access (held_from 0 (map (kept_of h) ns))
+pub count_same : (h : List Entry) (ns : List Named) (scope : Scope) (access : Access) → Valid h ns →
+    held_count scope access h ≡ count_now scope access (held_from 0 (map (kept_of h) ns))
 count_same h ns scope access v =
-    ap (λ bs. count_latches scope access bs) (among_is h ∙ sym (filter_low (held h)))
+    ap (λ bs. count_latches scope access bs) (sym (filter_low (held h)))
     ∙ count_briefs h ns scope access (λ j. nat_le 0 j) v
 
 -- the begins from the last writer on are those of no lower number
@@ -278,7 +281,8 @@ each_zero : (js : List ℕ) → Each (λ j. 0 ≤ j) js
 each_zero [] = tt
 each_zero (j ∷ js) = (omega arith, each_zero js)
 
-pub pending_same : (h : List Entry) (ns : List Named) (scope : Scope) → Valid h ns → count_latches scope Read (held_among h (from_last_writer scope (begins h))) ≡ count_now scope Read (filter (λ (k : Kept). holds_now k && nat_le (last_writer scope 0 (begins h)) k.id) (map (kept_of h) ns))
+pub pending_same : (h : List Entry) (ns : List Named) (scope : Scope) → Valid h ns →
+    pending_count scope h ≡ count_now scope Read (filter (λ (k : Kept). holds_now k && nat_le (last_writer scope 0 (begins h)) k.id) (map (kept_of h) ns))
 pending_same h ns scope v =
     let w : ℕ = last_writer scope 0 (begins h) in
     let holds : Begin → Bool = λ x. holds_latches x.mode && not (has_ended h x.id) in

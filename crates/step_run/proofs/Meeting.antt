@@ -3,25 +3,24 @@ use Rattle.std.proofs.Common.{◌≡◌, ℕ, Bool, true, false, cond, ◌&&◌,
 use Rattle.std.specs.List.{filter, flat_map}
 use Rattle.std.specs.Option.{option_map, option_or}
 use Rattle.std.proofs.lemmas.List.Elements.{filter-append, filter_agree}
-use Rattle.std.proofs.lemmas.Bool.{and_parts}
 use Rattle.span_key.specs.Scopes.{scope_if, scope_of}
 use Rattle.span_key.specs.declared.scopes.Scope.{Scope}
 use Rattle.span_key.specs.declared.scopes.Scope.TheVariants.{Global, Local}
-use Rattle.latch_model.specs.Latches.{conflict, has_access, in_scope, lies_in_latch, local, same, writes}
+use Rattle.latch_model.specs.Latches.{conflict, has_access, in_scope, local, same, writes}
 use Rattle.latch_model.specs.Histories.{HeldLatch, Snapshot, captures, in_front, in_order, in_waiting_order, latches_held, latches_of, list_of, listed}
 use Rattle.latch_model.specs.Histories.{met, met_by, shot, snapshot_of, those_of}
 use Rattle.latch_model.specs.declared.latch.Access.{Access}
 use Rattle.latch_model.specs.declared.latch.Access.TheVariants.{Read, Write}
 use Rattle.latch_model.specs.declared.latch.Latch.{Latch}
 use Rattle.latch_model.specs.declared.history.Entry.{Entry}
-use Rattle.latch_model.proofs.LatchLaws.{conflict-at_normal, same_is, same_writes_is}
-use Rattle.latch_model.proofs.Lists.{In}
-use Rattle.latch_model.proofs.Members.{list_any_of}
-use Rattle.latch_model.proofs.Meeting.{Captured, captured_own as own_is_captured, captured_within, list_of-snapshot}
-use Rattle.step_run.specs.Steps.{is_declared}
+use Rattle.latch_model.specs.Checks.{is_declared}
+use Rattle.latch_model.proofs.Declared.{captured_if_declared}
+use Rattle.latch_model.proofs.LatchLaws.{conflict-at_normal}
+use Rattle.latch_model.proofs.Meeting.{Captured, captured_own as own_is_captured, list_of-snapshot}
+use Rattle.latch_model.proofs.SnapshotOrder.{filter-in_order}
 use Rattle.step_run.specs.Running.{first_for, first_in, first_met, first_of, first_waiting, meets}
-use Rattle.step_run.proofs.Lists.{Each, Each-append, Each-filter, Each-from_In, Each-map, filter-filter, filter-map, head, head-append, option_map-or, option_or_assoc}
-use Rattle.step_run.proofs.Order.{filter-in_order, first_of-listed, first_of-unlaned, head-in_order, unlaned}
+use Rattle.latch_model.proofs.Elements.{Each, Each-append, Each-filter, Each-from_In, Each-map, filter-filter, filter-map, head, head-append, option_map-or, option_or_assoc}
+use Rattle.step_run.proofs.Order.{first_of-listed, first_of-unlaned, head-in_order, unlaned}
 
 -- what conflicts with a latch is in its scope
 scope_is : (b : Bool) (x : Latch) → in_scope (scope_if b) x ≡ same b (local x)
@@ -137,14 +136,8 @@ each_waiting P ls e =
 pub captured_own : (own : List Latch) → Each (Captured own) own
 captured_own own = Each-from_In (Captured own) own (own_is_captured own)
 
-captured_if : (own : List Latch) (l : Latch) → is_declared own l ≡ true → Captured own l
-captured_if own l e =
-    let d = list_any_of (lies_in_latch l) own e in
-    let parts = and_parts _ _ d.2 in
-    captured_within own l d.0 d.1 ((same_is (local l) (local d.0)).0 parts.0) ((same_writes_is l.access d.0.access).0 (and_parts _ _ parts.1).0)
-
 pub captured_declared : (own asks : List Latch) → Each (λ l. is_declared own l ≡ true) asks → Each (Captured own) asks
-captured_declared own asks e = Each-map (λ l. is_declared own l ≡ true) (Captured own) (captured_if own) asks e
+captured_declared own asks e = Each-map (λ l. is_declared own l ≡ true) (Captured own) (captured_if_declared own) asks e
 
 -- what is met first among joined latches
 first_met-append : (q : HeldLatch → Bool) (front : List HeldLatch) (ls ms : List Latch) → first_met q front (ls ++ ms) ≡ option_or (first_met q front ls) (first_met q front ms)

@@ -25,18 +25,22 @@ use Rattle.report.specs.Words.{is_cancelled, is_checked, is_granted, is_never, i
 use Rattle.script.specs.Commands.{same_name}
 use Rattle.script.specs.declared.command.Command.{Command}
 use Rattle.script.specs.declared.command.Command.TheVariants.{Begin as Open, Wait, Check, Poison, Release, Metrics}
-use Rattle.step_run.specs.State.{Granted, Named, Optimistic, Over, Pending, Phase, State, ended, has_cause, replaced, with_name, without}
-use Rattle.step_run.specs.Steps.{Step, checked, checked_unless, count_latches, counts_text, first_phase, first_turn, from_last_writer, held_among, is_declared, is_over, line, met_first, metrics_line, new_name, on_found, on_name, one, opening, passed_grant, poisoned, released, released_state, silent, turn, waited, with_new, writes_in}
+use Rattle.latch_model.specs.Checks.{has_cause}
+use Rattle.step_run.specs.State.{Granted, Named, Optimistic, Over, Pending, Phase, State, ended, replaced, with_name, without}
+use Rattle.latch_model.specs.Checks.{is_declared}
+use Rattle.latch_model.specs.Metrics.{held_count, pending_count, writes_in}
+use Rattle.step_run.specs.Steps.{Step, checked, checked_unless, counts_text, first_phase, first_turn, is_over, line, met_first, metrics_line, new_name, on_found, on_name, one, opening, passed_grant, poisoned, released, released_state, silent, turn, waited, with_new}
 use Rattle.step_run.specs.Running.{Kept, Running, Stepped, Turned, at_kept, at_place, check_now, checked_against, checked_now, count_now, counts_now, ending_of, entries_of, first_turn_now, held_from, kept_line, kept_silent, metrics_now, new_kept, on_kept, one_now, opening_now, poison_now, prerequisites, released_now, stage_at_first, stepped, turn_at, waited_now, with_ending, with_kept, with_lives}
 use Rattle.step_run.specs.declared.live.Ending.{Ending}
 use Rattle.step_run.specs.declared.live.Ending.TheVariants.{Granted as by_grant, Checked as by_check, Never as by_never}
-use Rattle.step_run.proofs.Lists.{Each, Each-map, head}
+use Rattle.latch_model.proofs.Elements.{Each, Each-map, head}
 use Rattle.step_run.proofs.Order.{unlaned}
-use Rattle.step_run.proofs.Growing.{begins-append, in_front_new, latches_of_new}
+use Rattle.latch_model.proofs.Growing.{begins-append, begins-end}
+use Rattle.step_run.proofs.Growing.{in_front_new, latches_of_new}
 use Rattle.step_run.proofs.Meeting.{captured_declared, meeting}
 use Rattle.step_run.proofs.Holding.{before_same, count_same, held_same, over_stage_is, pending_same}
 use Rattle.step_run.proofs.Places.{find_by_place, get-map, position_map, get-set, get_push, map-remove, remove-set, set_same}
-use Rattle.step_run.proofs.Standing.{Valid, begins_ended, kept-append, kept_of, last_writer, running_of, stage_of, valid_begin, valid_end, valid_remove, valid_set}
+use Rattle.step_run.proofs.Standing.{Valid, kept-append, kept_of, last_writer, running_of, stage_of, valid_begin, valid_end, valid_remove, valid_set}
 use Rattle.step_run.proofs.Turning.{AgreesAt, mark-listed, named_agrees, named_lives, not_counted, replaced_at, running_made, summary_checked, summary_granted, summary_made, summary_never, turn_agrees, without_at}
 
 -- What a command does to a state is what it does to what is kept.
@@ -171,8 +175,8 @@ ended_release s i n grant ending at q v =
           ∙ map-remove (kept_of (s.history ++ x ∷ [])) s.names i
           ∙ ap (λ ks. remove ks i) (kept-append s.history (x ∷ []) s.names v.begun))
           (length-append s.history (x ∷ [])) q
-          (ap (λ bs. last_writer Global 0 bs) (begins_ended s.history n.id n.session grant n.cause no_fault))
-          (ap (λ bs. last_writer Local 0 bs) (begins_ended s.history n.id n.session grant n.cause no_fault));
+          (ap (λ bs. last_writer Global 0 bs) (begins-end s.history n.id n.session grant n.cause no_fault))
+          (ap (λ bs. last_writer Local 0 bs) (begins-end s.history n.id n.session grant n.cause no_fault));
       valid = subst (λ ns. Valid (s.history ++ x ∷ []) ns) (remove-set s.names i over ∙ sym gone) left;
     }
 
@@ -278,8 +282,8 @@ opening_agrees s session name mode policy turns latches v =
 -- metrics
 counts_same : (h : List Entry) (ns : List Named) (scope : Scope) → Valid h ns → counts_text scope h ≡ counts_now scope (last_writer scope 0 (begins h)) (map (kept_of h) ns)
 counts_same h ns scope v =
-    ap (λ n. codes " read " ++ decimal n ++ codes " pending " ++ decimal (count_latches scope Read (held_among h (from_last_writer scope (begins h)))) ++ codes " write " ++ decimal (count_latches scope Write (held_among h (begins h)))) (count_same h ns scope Read v)
-    ∙ ap (λ n. codes " read " ++ decimal (count_now scope Read (held_from 0 (map (kept_of h) ns))) ++ codes " pending " ++ decimal n ++ codes " write " ++ decimal (count_latches scope Write (held_among h (begins h)))) (pending_same h ns scope v)
+    ap (λ n. codes " read " ++ decimal n ++ codes " pending " ++ decimal (pending_count scope h) ++ codes " write " ++ decimal (held_count scope Write h)) (count_same h ns scope Read v)
+    ∙ ap (λ n. codes " read " ++ decimal (count_now scope Read (held_from 0 (map (kept_of h) ns))) ++ codes " pending " ++ decimal n ++ codes " write " ++ decimal (held_count scope Write h)) (pending_same h ns scope v)
     ∙ ap (λ n. codes " read " ++ decimal (count_now scope Read (held_from 0 (map (kept_of h) ns))) ++ codes " pending " ++ decimal (count_now scope Read (held_from (last_writer scope 0 (begins h)) (map (kept_of h) ns))) ++ codes " write " ++ decimal n) (count_same h ns scope Write v)
 
 metrics_same : (s : State) → Valid s.history s.names → metrics_line s.history ≡ metrics_now (running_of s)

@@ -24,18 +24,20 @@ use Rattle.latch_model.specs.declared.history.Grant.TheVariants.{Never, Waited, 
 use Rattle.latch_model.proofs.LatchLaws.{normal-at_normal}
 use Rattle.report.specs.declared.counts.Summary.{Summary}
 use Rattle.report.specs.Words.{count_ended, ended_by, is_cancelled, is_checked, is_granted, is_never, is_poisoned, mark_text, marked, summary_of}
-use Rattle.step_run.specs.State.{Granted, Named, Over, State, ended, has_cause, is_poisoned_in, replaced, with_name, without}
+use Rattle.latch_model.specs.Checks.{has_cause}
+use Rattle.step_run.specs.State.{Granted, Named, Over, State, ended, is_poisoned_in, replaced, with_name, without}
 use Rattle.step_run.specs.Steps.{Step, after, blocked, blocked_line, by_poisoned, decided_by, granted, is_over, line, spent_turn, turn}
 use Rattle.step_run.specs.Running.{Kept, Running, Turned, blocked_by, blocked_now, blocker, by_poisoned_now, decided_now, granted_now, is_poisoned_among}
 use Rattle.step_run.specs.Running.{kept_line, put, spent, spread_now, turn_now, turned_at, with_ending, with_poison}
 use Rattle.step_run.specs.declared.live.Ending.{Ending}
 use Rattle.step_run.specs.declared.live.Ending.TheVariants.{Granted as by_grant, Checked as by_check, Poisoned as by_poison, Cancelled as by_cancel, Never as by_never}
 use Rattle.step_run.specs.declared.live.Stage.TheVariants.{Over as stage_over}
-use Rattle.step_run.proofs.Lists.{head}
+use Rattle.latch_model.proofs.Elements.{head}
+use Rattle.latch_model.proofs.Growing.{begins-end}
 use Rattle.step_run.proofs.Order.{unlaned}
 use Rattle.step_run.proofs.Holding.{blocker_same, poisoned_same}
 use Rattle.step_run.proofs.Places.{Each-at, Each-set, Rising, below_at, map-set}
-use Rattle.step_run.proofs.Standing.{IsAlike, Valid, begins_ended, kept-append, kept_of, last_writer, running_of, valid_end, valid_set}
+use Rattle.step_run.proofs.Standing.{IsAlike, Valid, kept-append, kept_of, last_writer, running_of, valid_end, valid_set}
 
 -- a name by its place
 pub replaced_at : (ns : List Named) (i : ℕ) (n m : Named) → slice_get ns i ≡ Some n → m.id ≡ n.id → Rising (map (λ (n : Named). n.id) ns) → replaced m ns ≡ slice_set ns i m
@@ -77,27 +79,27 @@ not_counted test h x e = count_push test h x ∙ ap (λ b. count_ended test h + 
 pub summary_granted : (h : List Entry) (id who front : ℕ) (poison : Cause) → summary_of (h ++ Ended id who (Waited front) poison no_fault ∷ []) ≡ with_ending (Some by_grant) (summary_of h)
 summary_granted h id who front poison =
     let x : Entry = Ended id who (Waited front) poison no_fault in
-    summary_made _ _ _ _ _ _ _ _ _ _ _ _ (ap length (begins_ended h id who (Waited front) poison no_fault)) (count_push is_granted h x) (not_counted is_checked h x refl) (not_counted is_poisoned h x refl) (not_counted is_cancelled h x refl) (not_counted is_never h x refl)
+    summary_made _ _ _ _ _ _ _ _ _ _ _ _ (ap length (begins-end h id who (Waited front) poison no_fault)) (count_push is_granted h x) (not_counted is_checked h x refl) (not_counted is_poisoned h x refl) (not_counted is_cancelled h x refl) (not_counted is_never h x refl)
 
 pub summary_checked : (h : List Entry) (id who : ℕ) (asked : List Latch) (poison : Cause) → summary_of (h ++ Ended id who (Checked asked) poison no_fault ∷ []) ≡ with_ending (Some by_check) (summary_of h)
 summary_checked h id who asked poison =
     let x : Entry = Ended id who (Checked asked) poison no_fault in
-    summary_made _ _ _ _ _ _ _ _ _ _ _ _ (ap length (begins_ended h id who (Checked asked) poison no_fault)) (not_counted is_granted h x refl) (count_push is_checked h x) (not_counted is_poisoned h x refl) (not_counted is_cancelled h x refl) (not_counted is_never h x refl)
+    summary_made _ _ _ _ _ _ _ _ _ _ _ _ (ap length (begins-end h id who (Checked asked) poison no_fault)) (not_counted is_granted h x refl) (count_push is_checked h x) (not_counted is_poisoned h x refl) (not_counted is_cancelled h x refl) (not_counted is_never h x refl)
 
 pub summary_never : (h : List Entry) (id who : ℕ) (poison : Cause) → summary_of (h ++ Ended id who Never poison no_fault ∷ []) ≡ with_ending (Some by_never) (summary_of h)
 summary_never h id who poison =
     let x : Entry = Ended id who Never poison no_fault in
-    summary_made _ _ _ _ _ _ _ _ _ _ _ _ (ap length (begins_ended h id who Never poison no_fault)) (not_counted is_granted h x refl) (not_counted is_checked h x refl) (not_counted is_poisoned h x refl) (not_counted is_cancelled h x refl) (count_push is_never h x)
+    summary_made _ _ _ _ _ _ _ _ _ _ _ _ (ap length (begins-end h id who Never poison no_fault)) (not_counted is_granted h x refl) (not_counted is_checked h x refl) (not_counted is_poisoned h x refl) (not_counted is_cancelled h x refl) (count_push is_never h x)
 
 summary_poisoned : (h : List Entry) (id who p : ℕ) (poison : Cause) → summary_of (h ++ Ended id who Never poison (Poisoned p) ∷ []) ≡ with_ending (Some by_poison) (summary_of h)
 summary_poisoned h id who p poison =
     let x : Entry = Ended id who Never poison (Poisoned p) in
-    summary_made _ _ _ _ _ _ _ _ _ _ _ _ (ap length (begins_ended h id who Never poison (Poisoned p))) (not_counted is_granted h x refl) (not_counted is_checked h x refl) (count_push is_poisoned h x) (not_counted is_cancelled h x refl) (not_counted is_never h x refl)
+    summary_made _ _ _ _ _ _ _ _ _ _ _ _ (ap length (begins-end h id who Never poison (Poisoned p))) (not_counted is_granted h x refl) (not_counted is_checked h x refl) (count_push is_poisoned h x) (not_counted is_cancelled h x refl) (not_counted is_never h x refl)
 
 summary_cancelled : (h : List Entry) (id who turns : ℕ) (poison : Cause) → summary_of (h ++ Ended id who Never poison (Cancelled turns) ∷ []) ≡ with_ending (Some by_cancel) (summary_of h)
 summary_cancelled h id who turns poison =
     let x : Entry = Ended id who Never poison (Cancelled turns) in
-    summary_made _ _ _ _ _ _ _ _ _ _ _ _ (ap length (begins_ended h id who Never poison (Cancelled turns))) (not_counted is_granted h x refl) (not_counted is_checked h x refl) (not_counted is_poisoned h x refl) (count_push is_cancelled h x) (not_counted is_never h x refl)
+    summary_made _ _ _ _ _ _ _ _ _ _ _ _ (ap length (begins-end h id who Never poison (Cancelled turns))) (not_counted is_granted h x refl) (not_counted is_checked h x refl) (not_counted is_poisoned h x refl) (count_push is_cancelled h x) (not_counted is_never h x refl)
 
 -- What a step of a state does is what happens to what is kept, at a place.
 pub record AgreesAt (s : State) (i : ℕ) (a : Step) (t : Turned) : Type 0 where
@@ -138,8 +140,8 @@ ended_agrees s i n m text grant fault ending at a q v =
     record {
       written = refl;
       run = running_made _ _ _ _ _ _ _ _ _ _ (ended_lives s.history s.names i n over x at a v) (length-append s.history (x ∷ [])) q
-          (ap (λ bs. last_writer Global 0 bs) (begins_ended s.history m.id m.session grant m.cause fault))
-          (ap (λ bs. last_writer Local 0 bs) (begins_ended s.history m.id m.session grant m.cause fault));
+          (ap (λ bs. last_writer Global 0 bs) (begins-end s.history m.id m.session grant m.cause fault))
+          (ap (λ bs. last_writer Local 0 bs) (begins-end s.history m.id m.session grant m.cause fault));
       valid = subst (λ ns. Valid (s.history ++ x ∷ []) ns) (sym (replaced_at s.names i n over at a v.rising))
           (subst (λ j. Valid (s.history ++ Ended j m.session grant m.cause fault ∷ []) (slice_set s.names i over)) (sym a)
           (valid_end s.history s.names i n over m.session grant m.cause fault at a refl v));

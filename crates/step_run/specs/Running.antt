@@ -19,7 +19,7 @@ use Rattle.report.specs.Words.{mark_text, numbers_text}
 use Rattle.script.specs.Commands.{same_name}
 use Rattle.script.specs.declared.command.Command.{Command}
 use Rattle.script.specs.declared.command.Command.TheVariants.{Begin as Open, Wait, Check, Poison, Release, Metrics}
-use Rattle.step_run.specs.Steps.{is_declared}
+use Rattle.latch_model.specs.Checks.{is_declared}
 use Rattle.step_run.specs.declared.live.Ending.{Ending}
 use Rattle.step_run.specs.declared.live.Ending.TheVariants.{Granted as by_grant, Checked as by_check, Poisoned as by_poison, Cancelled as by_cancel, Never as by_never}
 use Rattle.step_run.specs.declared.live.Stage.{Stage}

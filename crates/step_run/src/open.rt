@@ -2,7 +2,7 @@
 ghost use Rattle.std.specs.Prelude.{◌≡◌, ◌+◌, ◌++◌, ◌&&◌, map, not, IfOk, OnOk};
 ghost use Rattle.std.specs.List.{count_by, position};
 ghost use Rattle.latch_model.specs.Latches.{has_access, in_scope};
-ghost use Rattle.step_run.specs.Steps.{is_declared};
+ghost use Rattle.latch_model.specs.Checks.{is_declared};
 ghost use Rattle.step_run.specs.Running.{count_now, counts_now, held_from, holds_now, prerequisites, stage_at_first, writes_here};
 ghost use Rattle.step_run.specs.Views.{seen_live};
 

@@ -1,7 +1,7 @@
 use Rattle.std.proofs.Common.{◌≡◌, ◌<◌, ◌≤◌, ◌++◌, length, take, get_or, ap, ◌∙◌, subst, arith}
 use Rattle.report.specs.Words.{summary_of, summary_text}
 use Rattle.step_run.specs.Running.{Running}
-use Rattle.step_run.proofs.Lists.{take_whole}
+use Rattle.latch_model.proofs.Elements.{take_whole}
 use Rattle.step_run.proofs.Runs.{reached, stands_next, written_by}
 use Rattle.step_run.proofs.output_of.Goals as goal
 

@@ -1,4 +1,4 @@
--- Laws of lists, tests and options that speak of nothing else.
+-- Laws of lists, tests and options that speak of nothing else: what holds of each element, filters of filters and of maps, first elements.
 use Rattle.std.proofs.Common.{◌≡◌, ℕ, zero, suc, ◌≤◌, length, take, Bool, true, false, cond, ◌&&◌, ◌||◌, List, [], ◌∷◌, ◌++◌, map, Option, Some, None, refl, sym, ap, ◌∙◌, inl, inr, arith}
 use Rattle.std.specs.List.{filter, flat_map, list_any}
 use Rattle.std.specs.Option.{option_or, option_map}
