@@ -140,23 +140,23 @@ pub captured_declared : (own asks : List Latch) → Each (λ l. is_declared own 
 captured_declared own asks e = Each-map (λ l. is_declared own l ≡ true) (Captured own) (captured_if_declared own) asks e
 
 -- what is met first among joined latches
-first_met-append : (q : HeldLatch → Bool) (front : List HeldLatch) (ls ms : List Latch) → first_met q front (ls ++ ms) ≡ option_or (first_met q front ls) (first_met q front ms)
-first_met-append q front [] ms = refl
-first_met-append q front (l ∷ ls) ms =
-    ap (λ o. option_or (first_for q front l) o) (first_met-append q front ls ms)
-    ∙ sym (option_or_assoc (first_for q front l) (first_met q front ls) (first_met q front ms))
+first_met-append : (q : HeldLatch → Bool) (held_before : List HeldLatch) (ls ms : List Latch) → first_met q held_before (ls ++ ms) ≡ option_or (first_met q held_before ls) (first_met q held_before ms)
+first_met-append q held_before [] ms = refl
+first_met-append q held_before (l ∷ ls) ms =
+    ap (λ o. option_or (first_for q held_before l) o) (first_met-append q held_before ls ms)
+    ∙ sym (option_or_assoc (first_for q held_before l) (first_met q held_before ls) (first_met q held_before ms))
 
 waiting_parts : (a b c d : Option HeldLatch) → option_or (option_or (option_or a b) c) d ≡ option_or (option_or a b) (option_or c d)
 waiting_parts None None c d = refl
 waiting_parts None (Some x) c d = refl
 waiting_parts (Some x) b c d = refl
 
-first_met_waiting : (q : HeldLatch → Bool) (front : List HeldLatch) (asks : List Latch) → first_met q front (in_waiting_order asks) ≡ first_waiting q front asks
-first_met_waiting q front asks =
-    first_met-append q front (those_of Global Read asks ++ those_of Global Write asks ++ those_of Local Read asks) (those_of Local Write asks)
-    ∙ ap (λ o. option_or o (first_met q front (those_of Local Write asks))) (first_met-append q front (those_of Global Read asks ++ those_of Global Write asks) (those_of Local Read asks)
-    ∙ ap (λ o. option_or o (first_met q front (those_of Local Read asks))) (first_met-append q front (those_of Global Read asks) (those_of Global Write asks)))
-    ∙ waiting_parts (first_met q front (those_of Global Read asks)) (first_met q front (those_of Global Write asks)) (first_met q front (those_of Local Read asks)) (first_met q front (those_of Local Write asks))
+first_met_waiting : (q : HeldLatch → Bool) (held_before : List HeldLatch) (asks : List Latch) → first_met q held_before (in_waiting_order asks) ≡ first_waiting q held_before asks
+first_met_waiting q held_before asks =
+    first_met-append q held_before (those_of Global Read asks ++ those_of Global Write asks ++ those_of Local Read asks) (those_of Local Write asks)
+    ∙ ap (λ o. option_or o (first_met q held_before (those_of Local Write asks))) (first_met-append q held_before (those_of Global Read asks ++ those_of Global Write asks) (those_of Local Read asks)
+    ∙ ap (λ o. option_or o (first_met q held_before (those_of Local Read asks))) (first_met-append q held_before (those_of Global Read asks) (those_of Global Write asks)))
+    ∙ waiting_parts (first_met q held_before (those_of Global Read asks)) (first_met q held_before (those_of Global Write asks)) (first_met q held_before (those_of Local Read asks)) (first_met q held_before (those_of Local Write asks))
 
 -- What is met first, without its lane: the first that is met among the held latches, listed with its normal stamp.
 pub meeting : (h : List Entry) (k : ℕ) (q : ℕ → Bool) (asks : List Latch) → Each (Captured (latches_of h k)) asks →

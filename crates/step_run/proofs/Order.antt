@@ -1,9 +1,13 @@
 -- The first of some held latches in the order within a snapshot.
-use Rattle.std.proofs.Common.{◌≡◌, Bool, true, false, cond, List, [], ◌∷◌, map, Option, Some, None, refl, ap, ◌∙◌}
+use Rattle.std.proofs.Common.{◌≡◌, Bool, true, false, cond, ◌&&◌, List, [], ◌∷◌, ◌++◌, map, Option, Some, None, refl, sym, ap, ◌∙◌}
+use Rattle.std.specs.List.{filter}
 use Rattle.std.specs.Option.{option_map}
+use Rattle.std.proofs.lemmas.List.{append-nil}
+use Rattle.std.proofs.lemmas.List.Elements.{filter-append}
 use Rattle.latch_model.specs.Histories.{HeldLatch, comes_first, in_order, listed, with_latch}
 use Rattle.latch_model.proofs.Elements.{head}
-use Rattle.step_run.specs.Running.{earlier, first_of}
+use Rattle.latch_model.proofs.SnapshotOrder.{first_once, not_first_again}
+use Rattle.step_run.specs.Running.{earlier, first_of, first_yet}
 
 head_cond : (x y : HeldLatch) (ys ws : List HeldLatch) (b : Bool) → head (cond b (y ∷ ws) (x ∷ y ∷ ys)) ≡ Some (cond b y x)
 head_cond x y ys ws true = refl
@@ -41,3 +45,44 @@ first_of-unlaned xs = first_of-map unlaned (λ x y. refl) xs
 
 pub first_of-listed : (xs : List HeldLatch) → first_of (map listed xs) ≡ option_map listed (first_of xs)
 first_of-listed xs = first_of-map listed (λ x y. refl) xs
+
+-- The order carries over, and so the first of a list with one more is the first of its first and that one.
+first_through : (x y z : HeldLatch) → comes_first x y ≡ true → comes_first y z ≡ true → comes_first x z ≡ true
+first_through x y z e f = by (comes_first x z) refl
+  where
+    by : (b : Bool) → comes_first x z ≡ b → b ≡ true
+    by true g = refl
+    by false g = let no : comes_first x y ≡ false = not_first_again x z y g (first_once y z f) in cc
+
+abbrev first_yet_of : HeldLatch → HeldLatch → HeldLatch
+first_yet_of y x = cond (comes_first x y) x y
+
+yet_step : (x y z : HeldLatch) (xy yz : Bool) → comes_first x y ≡ xy → comes_first y z ≡ yz →
+    earlier z (Some (cond xy x y)) ≡ first_yet_of (cond yz y z) x
+yet_step x y z true true e f = ap (λ b. cond b x z) (first_through x y z e f) ∙ sym (ap (λ b. cond b x y) e)
+yet_step x y z true false e f = refl
+yet_step x y z false true e f = ap (λ b. cond b y z) f ∙ sym (ap (λ b. cond b x y) e)
+yet_step x y z false false e f = ap (λ b. cond b y z) f ∙ sym (ap (λ b. cond b x z) (not_first_again x y z e f))
+
+pub first_of-push : (xs : List HeldLatch) (x : HeldLatch) → first_of (xs ++ x ∷ []) ≡ Some (first_yet (first_of xs) x)
+first_of-push [] x = refl
+first_of-push (z ∷ zs) x = ap (λ o. Some (earlier z o)) (first_of-push zs x) ∙ ap Some (by (first_of zs))
+  where
+    by : (o : Option HeldLatch) → earlier z (Some (first_yet o x)) ≡ first_yet_of (earlier z o) x
+    by None = refl
+    by (Some y) = yet_step x y z (comes_first x y) (comes_first y z) refl refl
+
+-- One more latch is looked at.
+pub first_of-next : (p q : HeldLatch → Bool) (xs : List HeldLatch) (x : HeldLatch) →
+    first_of (filter (λ y. p y && q y) (xs ++ x ∷ [])) ≡
+    cond (p x) (cond (q x) (Some (first_yet (first_of (filter (λ y. p y && q y) xs)) x)) (first_of (filter (λ y. p y && q y) xs)))
+    (first_of (filter (λ y. p y && q y) xs))
+first_of-next p q xs x = ap first_of (filter-append (λ y. p y && q y) xs (x ∷ [])) ∙ by (p x) (q x)
+  where
+    before : List HeldLatch
+    before = filter (λ y. p y && q y) xs
+
+    by : (a b : Bool) → first_of (before ++ cond (a && b) (x ∷ []) []) ≡ cond a (cond b (Some (first_yet (first_of before) x)) (first_of before)) (first_of before)
+    by true true = first_of-push before x
+    by true false = ap first_of (append-nil before)
+    by false b = ap first_of (append-nil before)

@@ -87,8 +87,8 @@ first_turn_is r r1 n i mode l e m =
 put_steps : (s : Stepped) (new : StepRun) (text a b c : List ℕ) → b ≡ a ++ text → StepsTo s new b c → StepsTo (put_step text s) new a c
 put_steps s new text a b c e h = record { written = h.written ∙ ap (λ w. w ++ s.written) e ∙ append_assoc a text s.written; leaves = h.leaves }
 
-pub opens : {T E : Type 0} (res : Result T E) (r r1 : Running) (n k : Kept) (i : ℕ) (mode : Mode) (new : StepRun) (a b c : List ℕ) → n ≡ k → i ≡ length r.lives → r1 ≡ with_kept n r → mode ≡ k.mode → b ≡ a ++ opened_line n (prerequisites r.lives n.latches) → OnOk res (StepsTo (at_kept r1 i (slice_get r1.lives i) (λ i k. first_turn_now mode i k r1)) new b c) → OnOk res (StepsTo (opened_now r k) new a c)
-opens res r r1 n k i mode new a b c e l f m w h =
+pub opening_steps : {T E : Type 0} (res : Result T E) (r r1 : Running) (n k : Kept) (i : ℕ) (mode : Mode) (new : StepRun) (a b c : List ℕ) → n ≡ k → i ≡ length r.lives → r1 ≡ with_kept n r → mode ≡ k.mode → b ≡ a ++ opened_line n (prerequisites r.lives n.latches) → OnOk res (StepsTo (at_kept r1 i (slice_get r1.lives i) (λ i k. first_turn_now mode i k r1)) new b c) → OnOk res (StepsTo (opened_now r k) new a c)
+opening_steps res r r1 n k i mode new a b c e l f m w h =
     let same : mode ≡ n.mode = m ∙ ap (λ (k : Kept). k.mode) (sym e) in
     subst (λ k. OnOk res (StepsTo (opened_now r k) new a c)) e
     (on_ok_weaker res (put_steps (first_turn_now n.mode (length r.lives) n (with_kept n r)) new (opened_line n (prerequisites r.lives n.latches)) a b c w)

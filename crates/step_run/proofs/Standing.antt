@@ -50,7 +50,7 @@ kept_of h n = record {
   passed = is_some n.passed;
   poisoned = has_cause n.cause;
   latches = latches_of h n.id;
-  front = map unlaned (latches_held (in_front h n.id));
+  held_before = map unlaned (latches_held (in_front h n.id));
 }
 
 -- the number of the last request with a write latch in a scope

@@ -224,7 +224,7 @@ first_turn_agrees s i n Acquire at o v = at_agrees s i (turn n s) _ (turn_agrees
 first_turn_agrees s i n optimistic_mode at o v = silent_agrees s v
 first_turn_agrees s i n Look at o v = at_agrees s i (turn n s) _ (turn_agrees s i n at o v)
 
-kept_made : (k k' : Kept) → k.name ≡ k'.name → k.id ≡ k'.id → k.mode ≡ k'.mode → k.policy ≡ k'.policy → k.turns ≡ k'.turns → k.counted ≡ k'.counted → k.stage ≡ k'.stage → k.passed ≡ k'.passed → k.poisoned ≡ k'.poisoned → k.latches ≡ k'.latches → k.front ≡ k'.front → k ≡ k'
+kept_made : (k k' : Kept) → k.name ≡ k'.name → k.id ≡ k'.id → k.mode ≡ k'.mode → k.policy ≡ k'.policy → k.turns ≡ k'.turns → k.counted ≡ k'.counted → k.stage ≡ k'.stage → k.passed ≡ k'.passed → k.poisoned ≡ k'.poisoned → k.latches ≡ k'.latches → k.held_before ≡ k'.held_before → k ≡ k'
 kept_made k k' a b c d e f g h i j l =
     ap (λ x. let r : Kept = record k { name = x } in r) a
     ∙ ap (λ x. let r : Kept = record k { name = k'.name; id = x } in r) b
@@ -233,10 +233,10 @@ kept_made k k' a b c d e f g h i j l =
     ∙ ap (λ x. let r : Kept = record k { name = k'.name; id = k'.id; mode = k'.mode; policy = k'.policy; turns = x } in r) e
     ∙ ap (λ x. let r : Kept = record k { name = k'.name; id = k'.id; mode = k'.mode; policy = k'.policy; turns = k'.turns; counted = x } in r) f
     ∙ ap (λ x. let r : Kept = record k { name = k'.name; id = k'.id; mode = k'.mode; policy = k'.policy; turns = k'.turns; counted = k'.counted; stage = x } in r) g
-    ∙ ap (λ x. let r : Kept = record k' { passed = x; poisoned = k.poisoned; latches = k.latches; front = k.front } in r) h
-    ∙ ap (λ x. let r : Kept = record k' { poisoned = x; latches = k.latches; front = k.front } in r) i
-    ∙ ap (λ x. let r : Kept = record k' { latches = x; front = k.front } in r) j
-    ∙ ap (λ x. let r : Kept = record k' { front = x } in r) l
+    ∙ ap (λ x. let r : Kept = record k' { passed = x; poisoned = k.poisoned; latches = k.latches; held_before = k.held_before } in r) h
+    ∙ ap (λ x. let r : Kept = record k' { poisoned = x; latches = k.latches; held_before = k.held_before } in r) i
+    ∙ ap (λ x. let r : Kept = record k' { latches = x; held_before = k.held_before } in r) j
+    ∙ ap (λ x. let r : Kept = record k' { held_before = x } in r) l
 
 opening_agrees : (s : State) (session : ℕ) (name : List ℕ) (mode : Mode) (policy : Policy) (turns : Option ℕ) (latches : List Latch) → Valid s.history s.names → Agrees (opening s session name mode policy turns latches) (opening_now (running_of s) name mode policy turns latches)
 opening_agrees s session name mode policy turns latches v =

@@ -14,6 +14,6 @@ returns-clause-value c =
       from = from;
       inside = c.loop-from.invariant.inside;
       rest = take_whole (drop from text) (length text - from) (omega (arith, length-drop from text));
-      begins = elim c.loop-from-test.branch [ then-loop-from-test+else-text-from-ne10 w ↦ inr (omega arith) | else-loop-from-test w ↦ inl (omega arith) ];
+      starts = elim c.loop-from-test.branch [ then-loop-from-test+else-text-from-ne10 w ↦ inr (omega arith) | else-loop-from-test w ↦ inl (omega arith) ];
       one_feed = c.loop-from.invariant.one_feed;
     })
