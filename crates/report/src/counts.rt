@@ -4,7 +4,6 @@ ghost use Rattle.std.specs.Prelude.{◌≡◌, ◌++◌, length, take, decimal, 
 use crate::text::whole_or_none;
 use script::push_number;
 use span_key::Memory;
-use std::alloc::AllocError;
 
 /// How many requests of a history began, and how many of them ended in each way.
 #[derive(Clone, Copy, Debug, PartialEq, Eq)]
@@ -36,7 +35,7 @@ impl Summary {
         whole_or_none(pushed, before, out)
     }
 
-    fn push(&self, out: &mut Vec<u8>) -> Result<(), AllocError>
+    fn push(&self, out: &mut Vec<u8>) -> Result<(), Memory>
         ensures ok { OnOk result (out.new.items ≡ out.old.items ++ summary_text self.now) }
         ensures err { OnErr result (take (length out.old.items) out.new.items ≡ out.old.items) }
     {
@@ -52,7 +51,7 @@ impl Summary {
 }
 
 // A word and a number.
-fn push_count(word: &[u8], n: u64, out: &mut Vec<u8>) -> Result<(), AllocError>
+fn push_count(word: &[u8], n: u64, out: &mut Vec<u8>) -> Result<(), Memory>
     ensures ok { OnOk result (out.new.items ≡ out.old.items ++ (word.now ++ decimal n)) }
     ensures err { OnErr result (take (length out.old.items) out.new.items ≡ out.old.items) }
 {

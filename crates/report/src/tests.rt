@@ -89,7 +89,7 @@ fn latches_show_the_declared_stamp_and_marks_the_normal_one(rt: HostRuntime) -> 
     for row in rows {
         let latch = latch_of(rt.alloc(), row)?;
         let mut out = Vec::new(rt.alloc());
-        latch_text(&latch, &mut out)?;
+        latch_text(rt.alloc(), &latch, &mut out)?;
         assert_eq!(rt; out.as_slice(), row.latch);
         let mut out = Vec::new(rt.alloc());
         held_latch_text(&latch, &mut out)?;
@@ -151,10 +151,10 @@ fn a_mark_is_shown_by_its_span_and_both_parts_of_its_stamp(rt: HostRuntime) -> R
         },
     };
     let mut out = Vec::new(alloc);
-    mark_text(&mark, &mut out)?;
+    mark_text(alloc, &mark, &mut out)?;
     mark.span.refill(b"a", b"");
     mark.stamp = Stamp::EMPTY;
-    mark_text(&mark, &mut out)?;
+    mark_text(alloc, &mark, &mut out)?;
     assert!(rt; out.as_slice() == b"61-63@7.061@0.0".as_slice());
     Ok(())
 }

@@ -1,6 +1,6 @@
 // How latches, held latches and numbers are spelled. Each public function appends to `out`, and takes back what it appended where
 // memory is refused. The private ones leave that to it: their `out` still begins with what it held.
-ghost use Rattle.std.specs.Prelude.{◌≡◌, ◌≤◌, ◌∷◌, ◌++◌, length, take, decimal, is_ok, OnOk, OnErr};
+ghost use Rattle.std.specs.Prelude.{◌≡◌, ◌≤◌, ◌∷◌, ◌++◌, length, take, decimal, OnOk, OnErr};
 ghost use Rattle.std.specs.List.{flat_map};
 ghost use Rattle.script.specs.Texts.{latch_text};
 ghost use Rattle.span_key.specs.Spans.{key_limit};
@@ -10,10 +10,10 @@ use hlc_stamp::Stamp;
 use latch_model::latch::Latch;
 use script::{push_after, push_bounds, push_latch, push_number, push_span, push_whole_stamp};
 use span_key::{Memory, SpanRoom};
-use std::alloc::AllocError;
+use std::alloc::Global;
 
 /// Appends a latch as scripts write it: its access, its span and its declared stamp.
-pub fn latch_text(latch: &Latch, out: &mut Vec<u8>) -> Result<(), Memory>
+pub fn latch_text(_alloc: Global, latch: &Latch, out: &mut Vec<u8>) -> Result<(), Memory>
     ensures ok { OnOk result (out.new.items ≡ out.old.items ++ latch_text latch.now) }
     ensures err { OnErr result (out.new.items ≡ out.old.items) }
 {
@@ -42,7 +42,7 @@ pub struct Mark {
 }
 
 /// Appends a mark: its span, and both parts of its stamp.
-pub fn mark_text(mark: &Mark, out: &mut Vec<u8>) -> Result<(), Memory>
+pub fn mark_text(_alloc: Global, mark: &Mark, out: &mut Vec<u8>) -> Result<(), Memory>
     ensures ok { OnOk result (out.new.items ≡ out.old.items ++ marked mark.now.span mark.now.stamp) }
     ensures err { OnErr result (out.new.items ≡ out.old.items) }
 {
@@ -57,7 +57,7 @@ pub fn number_text(n: u64, out: &mut Vec<u8>) -> Result<(), Memory>
     ensures ok { OnOk result (out.new.items ≡ out.old.items ++ decimal n) }
     ensures err { OnErr result (out.new.items ≡ out.old.items) }
 {
-    push_number(n, out).map_err(|_| Memory)
+    push_number(n, out)
 }
 
 /// Appends numbers with commas between them, or a hyphen where there are none.
@@ -72,24 +72,21 @@ pub fn numbers_text(numbers: &[u64], out: &mut Vec<u8>) -> Result<(), Memory>
 
 // What was pushed, or nothing of it where memory was refused: then `out` holds its first `before` bytes.
 pub(crate) fn whole_or_none(
-    pushed: Result<(), AllocError>,
+    pushed: Result<(), Memory>,
     before: usize,
     out: &mut Vec<u8>,
 ) -> Result<(), Memory>
-    ensures same { is_ok result ≡ is_ok pushed }
+    ensures same { result ≡ pushed }
     ensures ok { OnOk result (out.new.items ≡ out.old.items) }
     ensures err { OnErr result (out.new.items ≡ take before out.old.items) }
 {
-    match pushed {
-        Ok(()) => Ok(()),
-        Err(_) => {
-            out.truncate(before);
-            Err(Memory)
-        }
+    if pushed.is_err() {
+        out.truncate(before);
     }
+    pushed
 }
 
-fn push_mark(latch: &Latch, out: &mut Vec<u8>) -> Result<(), AllocError>
+fn push_mark(latch: &Latch, out: &mut Vec<u8>) -> Result<(), Memory>
     ensures ok { OnOk result (out.new.items ≡ out.old.items ++ mark_text latch.now) }
     ensures err { OnErr result (take (length out.old.items) out.new.items ≡ out.old.items) }
 {
@@ -97,7 +94,7 @@ fn push_mark(latch: &Latch, out: &mut Vec<u8>) -> Result<(), AllocError>
     push_whole_stamp(latch.normal(), out)
 }
 
-fn push_marked(key: &[u8], end: &[u8], stamp: Stamp, out: &mut Vec<u8>) -> Result<(), AllocError>
+fn push_marked(key: &[u8], end: &[u8], stamp: Stamp, out: &mut Vec<u8>) -> Result<(), Memory>
     requires key { length key.now ≤ key_limit }
     requires end { length end.now ≤ key_limit }
     ensures ok { OnOk result (out.new.items ≡ out.old.items ++ marked (key.now, end.now) stamp) }
@@ -107,7 +104,7 @@ fn push_marked(key: &[u8], end: &[u8], stamp: Stamp, out: &mut Vec<u8>) -> Resul
     push_whole_stamp(stamp, out)
 }
 
-fn push_numbers(numbers: &[u64], out: &mut Vec<u8>) -> Result<(), AllocError>
+fn push_numbers(numbers: &[u64], out: &mut Vec<u8>) -> Result<(), Memory>
     ensures ok { OnOk result (out.new.items ≡ out.old.items ++ numbers_text numbers.now) }
     ensures err { OnErr result (take (length out.old.items) out.new.items ≡ out.old.items) }
 {
@@ -121,7 +118,7 @@ fn push_numbers(numbers: &[u64], out: &mut Vec<u8>) -> Result<(), AllocError>
 }
 
 // Numbers that follow another one.
-fn push_others(numbers: &[u64], out: &mut Vec<u8>) -> Result<(), AllocError>
+fn push_others(numbers: &[u64], out: &mut Vec<u8>) -> Result<(), Memory>
     ensures ok { OnOk result (out.new.items ≡ out.old.items ++ flat_map (λ n. 44 ∷ decimal n) numbers.now) }
     ensures err { OnErr result (take (length out.old.items) out.new.items ≡ out.old.items) }
 {

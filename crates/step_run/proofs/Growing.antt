@@ -15,7 +15,8 @@ use Rattle.latch_model.specs.declared.history.Entry.{Entry}
 use Rattle.latch_model.specs.declared.history.Entry.TheVariants.{Begun, Ended}
 use Rattle.latch_model.specs.declared.history.Fault.{Fault}
 use Rattle.latch_model.specs.declared.history.Grant.{Grant}
-use Rattle.step_run.proofs.Lists.{Each, Each-map, filter-filter, filter_yes, list_any-filter, list_any_agree}
+use Rattle.latch_model.proofs.Growing.{begins-append, begun_of, in_front-append as in_front_of_begun, latches_of-append as latches_of_begun}
+use Rattle.latch_model.proofs.Elements.{Each, Each-map, filter-filter, filter_yes, list_any-filter, list_any_agree}
 
 -- tests
 or_false : (a : Bool) → (a || false) ≡ a
@@ -41,9 +42,6 @@ eq_and a b f true e = ap f (eqb-true a b e)
 eq_and a b f false e = refl
 
 -- begins and ends
-pub begins-append : (h t : List Entry) → begins (h ++ t) ≡ begins h ++ begins t
-begins-append h t = filter_map-append begin_of h t
-
 pub has_ended-append : (h t : List Entry) (k : ℕ) → has_ended (h ++ t) k ≡ (has_ended h k || has_ended t k)
 has_ended-append h t k = list_any-append (is_end k) h t
 
@@ -55,15 +53,7 @@ begun_is [] k = refl
 begun_is (Begun id lane who mode request ∷ h) k = ap (λ b. (id == k) || b) (begun_is h k)
 begun_is (Ended id who grant poison fault ∷ h) k = begun_is h k
 
--- what has begun is found where it was
-found_step : {X : Type 0} (p : X → Bool) (x : X) (xs ys : List X) (b : Bool) → (b || list_any p xs) ≡ true → (list_any p xs ≡ true → find p (xs ++ ys) ≡ find p xs) → cond b (Some x) (find p (xs ++ ys)) ≡ cond b (Some x) (find p xs)
-found_step p x xs ys true e f = refl
-found_step p x xs ys false e f = f e
-
-find-append : {X : Type 0} (p : X → Bool) (xs ys : List X) → list_any p xs ≡ true → find p (xs ++ ys) ≡ find p xs
-find-append p [] ys e = absurd (cc)
-find-append p (x ∷ xs) ys e = found_step p x xs ys (p x) e (find-append p xs ys)
-
+-- what has just begun is found
 find-append_none_step : {X : Type 0} (p : X → Bool) (x : X) (xs ys : List X) (b : Bool) → (b || list_any p xs) ≡ false → (list_any p xs ≡ false → find p (xs ++ ys) ≡ find p ys) → cond b (Some x) (find p (xs ++ ys)) ≡ find p ys
 find-append_none_step p x xs ys true e f = absurd (cc)
 find-append_none_step p x xs ys false e f = f e
@@ -73,9 +63,10 @@ find-append_none p [] ys e = refl
 find-append_none p (x ∷ xs) ys e = find-append_none_step p x xs ys (p x) e (find-append_none p xs ys)
 
 pub latches_of-append : (h t : List Entry) (k : ℕ) → has_begun h k ≡ true → latches_of (h ++ t) k ≡ latches_of h k
-latches_of-append h t k e =
-    ap (λ bs. option_map_or (λ (b : Begin). b.request.latches) (find (λ (b : Begin). b.id == k) bs) []) (begins-append h t)
-    ∙ ap (λ o. option_map_or (λ (b : Begin). b.request.latches) o []) (find-append (λ (b : Begin). b.id == k) (begins h) (begins t) (sym (begun_is h k) ∙ e))
+latches_of-append h t k e = let b = begun_of h k e in latches_of_begun h t k b.0 b.1
+
+pub in_front-append : (h t : List Entry) (k : ℕ) → has_begun h k ≡ true → in_front (h ++ t) k ≡ in_front h k
+in_front-append h t k e = let b = begun_of h k e in in_front_of_begun h t k b.0 b.1
 
 pub latches_of_new : (h : List Entry) (id lane who : ℕ) (mode : Mode) (request : Declaration) → has_begun h id ≡ false → latches_of (h ++ Begun id lane who mode request ∷ []) id ≡ request.latches
 latches_of_new h id lane who mode request e =
@@ -83,36 +74,22 @@ latches_of_new h id lane who mode request e =
     ∙ ap (λ o. option_map_or (λ (b : Begin). b.request.latches) o []) (find-append_none (λ (b : Begin). b.id == id) (begins h) _ (sym (begun_is h id) ∙ e))
     ∙ ap (λ b. option_map_or (λ (b : Begin). b.request.latches) (cond b (Some (record { id = id; lane = lane; who = who; mode = mode; request = request })) None) []) (eq-eqb id id refl)
 
--- the front of a history, in front of the first entry that passes
-abbrev front_of : {X : Type 0} → (X → Bool) → List X → List X
-front_of q xs = take_while (λ x. not (q x)) xs
+-- the entries in front of the first that passes
+abbrev before_first : {X : Type 0} → (X → Bool) → List X → List X
+before_first q xs = take_while (λ x. not (q x)) xs
 
-front_step : {X : Type 0} (q : X → Bool) (x : X) (xs zs : List X) (b : Bool) → (b || list_any q xs) ≡ true → (list_any q xs ≡ true → front_of q zs ≡ front_of q xs) → cond (not b) (x ∷ front_of q zs) [] ≡ cond (not b) (x ∷ front_of q xs) []
-front_step q x xs zs true e f = refl
-front_step q x xs zs false e f = ap (λ us. x ∷ us) (f e)
+all_before_step : {X : Type 0} (q : X → Bool) (x : X) (xs zs : List X) (b : Bool) → (b || list_any q xs) ≡ false → (list_any q xs ≡ false → before_first q zs ≡ xs) → cond (not b) (x ∷ before_first q zs) [] ≡ x ∷ xs
+all_before_step q x xs zs true e f = absurd (cc)
+all_before_step q x xs zs false e f = ap (λ us. x ∷ us) (f e)
 
-front-append : {X : Type 0} (q : X → Bool) (xs ys : List X) → list_any q xs ≡ true → front_of q (xs ++ ys) ≡ front_of q xs
-front-append q [] ys e = absurd (cc)
-front-append q (x ∷ xs) ys e =
-    take_while-cons (λ x. not (q x)) x (xs ++ ys)
-    ∙ front_step q x xs (xs ++ ys) (q x) e (front-append q xs ys)
-    ∙ sym (take_while-cons (λ x. not (q x)) x xs)
-
-front_at_step : {X : Type 0} (q : X → Bool) (x : X) (xs zs : List X) (b : Bool) → (b || list_any q xs) ≡ false → (list_any q xs ≡ false → front_of q zs ≡ xs) → cond (not b) (x ∷ front_of q zs) [] ≡ x ∷ xs
-front_at_step q x xs zs true e f = absurd (cc)
-front_at_step q x xs zs false e f = ap (λ us. x ∷ us) (f e)
-
-front_at : {X : Type 0} (q : X → Bool) (xs : List X) (y : X) (ys : List X) → list_any q xs ≡ false → q y ≡ true → front_of q (xs ++ y ∷ ys) ≡ xs
-front_at q [] y ys e f = take_while-cons (λ x. not (q x)) y ys ∙ ap (λ b. cond (not b) (y ∷ front_of q ys) []) f
-front_at q (x ∷ xs) y ys e f =
+all_before : {X : Type 0} (q : X → Bool) (xs : List X) (y : X) (ys : List X) → list_any q xs ≡ false → q y ≡ true → before_first q (xs ++ y ∷ ys) ≡ xs
+all_before q [] y ys e f = take_while-cons (λ x. not (q x)) y ys ∙ ap (λ b. cond (not b) (y ∷ before_first q ys) []) f
+all_before q (x ∷ xs) y ys e f =
     take_while-cons (λ x. not (q x)) x (xs ++ y ∷ ys)
-    ∙ front_at_step q x xs (xs ++ y ∷ ys) (q x) e (λ k. front_at q xs y ys k f)
-
-pub in_front-append : (h t : List Entry) (k : ℕ) → has_begun h k ≡ true → in_front (h ++ t) k ≡ in_front h k
-in_front-append h t k e = front-append (is_begin k) h t e
+    ∙ all_before_step q x xs (xs ++ y ∷ ys) (q x) e (λ k. all_before q xs y ys k f)
 
 pub in_front_new : (h : List Entry) (id lane who : ℕ) (mode : Mode) (request : Declaration) → has_begun h id ≡ false → in_front (h ++ Begun id lane who mode request ∷ []) id ≡ h
-in_front_new h id lane who mode request e = front_at (is_begin id) h (Begun id lane who mode request) [] e (eq-eqb id id refl)
+in_front_new h id lane who mode request e = all_before (is_begin id) h (Begun id lane who mode request) [] e (eq-eqb id id refl)
 
 -- what has begun in front has begun
 each_self : (bs : List Begin) → Each (λ b. list_any (λ c. c.id == b.id) bs ≡ true) bs

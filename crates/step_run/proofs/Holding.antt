@@ -8,15 +8,17 @@ use Rattle.std.proofs.lemmas.Bool.{le-leb, lt-leb, lt-ltb}
 use Rattle.span_key.specs.declared.scopes.Scope.{Scope}
 use Rattle.span_key.specs.declared.scopes.Scope.TheVariants.{Global, Local}
 use Rattle.latch_model.specs.Latches.{has_access, in_scope, some_conflict}
-use Rattle.latch_model.specs.Histories.{Begin, HeldLatch, ascending, begins, has_begun, has_ended, held, holds_latches, in_front, latches_held, latches_held_by, latches_of, met, open_begins, those_of, with_number}
+use Rattle.latch_model.specs.Histories.{Begin, HeldLatch, ascending, begins, has_begun, has_ended, held, holds_latches, in_front, latches_held, latches_held_by, latches_of, listed, met, open_begins, those_of, with_number}
 use Rattle.latch_model.specs.declared.latch.Access.{Access}
 use Rattle.latch_model.specs.declared.latch.Access.TheVariants.{Read, Write}
 use Rattle.latch_model.specs.declared.latch.Latch.{Latch}
 use Rattle.latch_model.specs.declared.history.Entry.{Entry}
-use Rattle.step_run.specs.State.{Granted, Named, Optimistic, Over, Pending, Phase, has_cause, is_poisoned_in}
-use Rattle.step_run.specs.Steps.{count_latches, from_last_writer, held_among, is_over, writes_in}
+use Rattle.latch_model.specs.Checks.{has_cause}
+use Rattle.step_run.specs.State.{Granted, Named, Optimistic, Over, Pending, Phase, is_poisoned_in}
+use Rattle.latch_model.specs.Metrics.{count_latches, from_last_writer, held_among, held_count, pending_count, writes_in}
+use Rattle.step_run.specs.Steps.{is_over}
 use Rattle.step_run.specs.Running.{Kept, blocker, count_now, first_in, first_met, first_of, first_waiting, held_from, held_now, holds_now, is_open_among, is_open_now, is_over_stage, is_poisoned_among, meets, placed, prerequisites}
-use Rattle.step_run.proofs.Lists.{Each, Each-filter, Each-flat_map, Each-map, filter-filter, filter-map, filter_agree_each, filter_no, filter_yes, flat_map-map, flat_map_agree, head, list_any-filter, list_any-map, list_any_agree, map-flat_map, map-map}
+use Rattle.latch_model.proofs.Elements.{Each, Each-filter, Each-flat_map, Each-map, filter-filter, filter-map, filter_agree_each, filter_no, filter_yes, flat_map-map, flat_map_agree, head, list_any-filter, list_any-map, list_any_agree, map-flat_map, map-map}
 use Rattle.step_run.proofs.Order.{unlaned}
 use Rattle.step_run.proofs.Growing.{begun_in_front, open_is}
 use Rattle.step_run.proofs.Meeting.{captured_own, meeting}
@@ -175,12 +177,18 @@ first_waiting_agree q r xs ls e =
     let d : first_met q xs (those_of Local Write ls) ≡ first_met r xs (those_of Local Write ls) = part Local Write in
     cc
 
-pub blocker_same : (h : List Entry) (ns : List Named) (n : Named) → Valid h ns → option_map unlaned (head (filter (λ (x : HeldLatch). not (has_ended h x.by)) (met h n.id (latches_of h n.id)))) ≡ blocker (kept_of h n) (map (kept_of h) ns)
+pub blocker_same : (h : List Entry) (ns : List Named) (n : Named) → Valid h ns →
+    option_map unlaned (head (filter (λ (x : HeldLatch). not (has_ended h x.by)) (met h n.id (latches_of h n.id)))) ≡
+    option_map listed (blocker (kept_of h n) (map (kept_of h) ns))
 blocker_same h ns n v =
     meeting h n.id (λ j. not (has_ended h j)) (latches_of h n.id) (captured_own (latches_of h n.id))
-    ∙ first_waiting_agree (λ (x : HeldLatch). not (has_ended h x.by)) (λ (x : HeldLatch). is_open_among (map (kept_of h) ns) x.by) (map unlaned (latches_held (in_front h n.id))) (latches_of h n.id)
+    ∙ ap (λ o. option_map listed o)
+    (first_waiting_agree (λ (x : HeldLatch). not (has_ended h x.by)) (λ (x : HeldLatch). is_open_among (map (kept_of h) ns) x.by) held_before (latches_of h n.id)
     (Each-map (λ (x : HeldLatch). has_begun h x.by ≡ true) (λ (x : HeldLatch). not (has_ended h x.by) ≡ is_open_among (map (kept_of h) ns) x.by)
-    (λ x t. sym (open_same h ns x.by v ∙ ap (λ b. b && not (has_ended h x.by)) t)) (map unlaned (latches_held (in_front h n.id))) (front_begun h n.id))
+    (λ x t. sym (open_same h ns x.by v ∙ ap (λ b. b && not (has_ended h x.by)) t)) held_before (front_begun h n.id)))
+  where
+    held_before : List HeldLatch
+    held_before = map unlaned (latches_held (in_front h n.id))
 
 -- counts
 sum_by-map : {X Y : Type 0} (f : Y → ℕ) (g : X → Y) (xs : List X) → sum_by f (map g xs) ≡ sum_by (λ x. f (g x)) xs
@@ -209,9 +217,10 @@ filter_low : (bs : List Begin) → filter (λ (x : Begin). nat_le 0 x.id) bs ≡
 filter_low [] = refl
 filter_low (b ∷ bs) = filter_yes (λ (x : Begin). nat_le 0 x.id) b bs (le-leb 0 b.id (omega arith)) ∙ ap (λ us. b ∷ us) (filter_low bs)
 
-pub count_same : (h : List Entry) (ns : List Named) (scope : Scope) (access : Access) → Valid h ns → count_latches scope access (held_among h (begins h)) ≡ count_now scope access (held_from 0 (map (kept_of h) ns))
+pub count_same : (h : List Entry) (ns : List Named) (scope : Scope) (access : Access) → Valid h ns →
+    held_count scope access h ≡ count_now scope access (held_from 0 (map (kept_of h) ns))
 count_same h ns scope access v =
-    ap (λ bs. count_latches scope access bs) (among_is h ∙ sym (filter_low (held h)))
+    ap (λ bs. count_latches scope access bs) (sym (filter_low (held h)))
     ∙ count_briefs h ns scope access (λ j. nat_le 0 j) v
 
 -- the begins from the last writer on are those of no lower number
@@ -272,7 +281,8 @@ each_zero : (js : List ℕ) → Each (λ j. 0 ≤ j) js
 each_zero [] = tt
 each_zero (j ∷ js) = (omega arith, each_zero js)
 
-pub pending_same : (h : List Entry) (ns : List Named) (scope : Scope) → Valid h ns → count_latches scope Read (held_among h (from_last_writer scope (begins h))) ≡ count_now scope Read (filter (λ (k : Kept). holds_now k && nat_le (last_writer scope 0 (begins h)) k.id) (map (kept_of h) ns))
+pub pending_same : (h : List Entry) (ns : List Named) (scope : Scope) → Valid h ns →
+    pending_count scope h ≡ count_now scope Read (filter (λ (k : Kept). holds_now k && nat_le (last_writer scope 0 (begins h)) k.id) (map (kept_of h) ns))
 pending_same h ns scope v =
     let w : ℕ = last_writer scope 0 (begins h) in
     let holds : Begin → Bool = λ x. holds_latches x.mode && not (has_ended h x.id) in

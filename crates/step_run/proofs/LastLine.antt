@@ -16,5 +16,5 @@ last_is text line h =
     suffix_len_is (λ b. not (b == 10)) (take n text) h.from 0 (omega arith)
     (λ k low high. ap not (ne_eqb (get_or (take n text) k 0) 10 (λ e. h.one_feed k low (omega arith) (sym (same k (omega arith)) ∙ e))))
     (λ some. ap not (eq-eqb (get_or (take n text) (h.from - 1) 0) 10
-    (same (h.from - 1) (omega arith) ∙ ⊎_elim (λ e. absurd (omega arith)) (λ e. e) h.begins))) in
+    (same (h.from - 1) (omega arith) ∙ ⊎_elim (λ e. absurd (omega arith)) (λ e. e) h.starts))) in
     h.rest ∙ ap (λ m. drop m text) (omega arith)

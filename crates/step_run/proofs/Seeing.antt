@@ -6,7 +6,6 @@ use Rattle.std.specs.List.{remove}
 use Rattle.std.proofs.lemmas.List.{append-nil, append_assoc}
 use Rattle.std.proofs.lemmas.Result.{on_ok_weaker}
 use Rattle.latch_model.specs.Histories.{HeldLatch}
-use Rattle.span_key.specs.declared.keys.Memory.{Memory}
 use Rattle.step_run.specs.Running.{Kept, Running, Stepped, Turned, at_kept, blocker, decided_if, ending_of, entries_of, first_turn_now, kept_line, kept_silent, opened_line, opened_now, poisoned_met, prerequisites, put_step, released_now, stepped, turn_at, turn_now, waited_now, with_ending, with_kept, with_lives, without_check}
 use Rattle.step_run.specs.Views.{Counts, StepsTo, TurnsTo, seen_live, seen_run}
 use Rattle.step_run.specs.declared.live.Ending.{Ending}
@@ -44,7 +43,7 @@ turn_counted old mid new i t y before after ending h a b c d e k = record {
       (k.global_writer ∙ d) (k.local_writer ∙ e);
 }
 
-pub turn_ends : {T : Type 0} (r : Result T Memory) (old mid new : StepRun) (i : ℕ) (t : Turned) (y : Live) (before after : List ℕ) (ending : Option Ending) → TurnsTo t y before after ending → mid.lives.items ≡ slice_set old.lives.items i y → mid.entries ≡ old.entries → mid.summary ≡ old.summary → mid.global_writer ≡ old.global_writer → mid.local_writer ≡ old.local_writer → OnOk r (Counts ending mid new) → OnOk r (StepsTo (stepped i t (seen_run old)) new before after)
+pub turn_ends : {T E : Type 0} (r : Result T E) (old mid new : StepRun) (i : ℕ) (t : Turned) (y : Live) (before after : List ℕ) (ending : Option Ending) → TurnsTo t y before after ending → mid.lives.items ≡ slice_set old.lives.items i y → mid.entries ≡ old.entries → mid.summary ≡ old.summary → mid.global_writer ≡ old.global_writer → mid.local_writer ≡ old.local_writer → OnOk r (Counts ending mid new) → OnOk r (StepsTo (stepped i t (seen_run old)) new before after)
 turn_ends r old mid new i t y before after ending h a b c d e k = on_ok_weaker r (turn_counted old mid new i t y before after ending h a b c d e) k
 
 pub turn_is : (n : Kept) (entries : ℕ) (lives : List Kept) (p : Bool) (o : Option HeldLatch) → p ≡ poisoned_met lives o → o ≡ blocker n lives → decided_if n entries p o ≡ turn_now n entries lives
@@ -74,7 +73,7 @@ release_counted old mid new i n before after ending h f a b c d e k = record {
       (k.global_writer ∙ d) (k.local_writer ∙ e);
 }
 
-pub release_ends : {T : Type 0} (r : Result T Memory) (old mid new : StepRun) (i : ℕ) (n : Kept) (before after : List ℕ) (ending : Option Ending) → after ≡ before ++ kept_line n (codes "ended") → ending ≡ ending_of n.stage n.passed → mid.lives.items ≡ remove old.lives.items i → mid.entries ≡ old.entries → mid.summary ≡ old.summary → mid.global_writer ≡ old.global_writer → mid.local_writer ≡ old.local_writer → OnOk r (Counts ending mid new) → OnOk r (StepsTo (released_now i n (seen_run old)) new before after)
+pub release_ends : {T E : Type 0} (r : Result T E) (old mid new : StepRun) (i : ℕ) (n : Kept) (before after : List ℕ) (ending : Option Ending) → after ≡ before ++ kept_line n (codes "ended") → ending ≡ ending_of n.stage n.passed → mid.lives.items ≡ remove old.lives.items i → mid.entries ≡ old.entries → mid.summary ≡ old.summary → mid.global_writer ≡ old.global_writer → mid.local_writer ≡ old.local_writer → OnOk r (Counts ending mid new) → OnOk r (StepsTo (released_now i n (seen_run old)) new before after)
 release_ends r old mid new i n before after ending h f a b c d e k = on_ok_weaker r (release_counted old mid new i n before after ending h f a b c d e) k
 
 -- an opening
@@ -88,8 +87,8 @@ first_turn_is r r1 n i mode l e m =
 put_steps : (s : Stepped) (new : StepRun) (text a b c : List ℕ) → b ≡ a ++ text → StepsTo s new b c → StepsTo (put_step text s) new a c
 put_steps s new text a b c e h = record { written = h.written ∙ ap (λ w. w ++ s.written) e ∙ append_assoc a text s.written; leaves = h.leaves }
 
-pub opens : {T : Type 0} (res : Result T Memory) (r r1 : Running) (n k : Kept) (i : ℕ) (mode : Mode) (new : StepRun) (a b c : List ℕ) → n ≡ k → i ≡ length r.lives → r1 ≡ with_kept n r → mode ≡ k.mode → b ≡ a ++ opened_line n (prerequisites r.lives n.latches) → OnOk res (StepsTo (at_kept r1 i (slice_get r1.lives i) (λ i k. first_turn_now mode i k r1)) new b c) → OnOk res (StepsTo (opened_now r k) new a c)
-opens res r r1 n k i mode new a b c e l f m w h =
+pub opening_steps : {T E : Type 0} (res : Result T E) (r r1 : Running) (n k : Kept) (i : ℕ) (mode : Mode) (new : StepRun) (a b c : List ℕ) → n ≡ k → i ≡ length r.lives → r1 ≡ with_kept n r → mode ≡ k.mode → b ≡ a ++ opened_line n (prerequisites r.lives n.latches) → OnOk res (StepsTo (at_kept r1 i (slice_get r1.lives i) (λ i k. first_turn_now mode i k r1)) new b c) → OnOk res (StepsTo (opened_now r k) new a c)
+opening_steps res r r1 n k i mode new a b c e l f m w h =
     let same : mode ≡ n.mode = m ∙ ap (λ (k : Kept). k.mode) (sym e) in
     subst (λ k. OnOk res (StepsTo (opened_now r k) new a c)) e
     (on_ok_weaker res (put_steps (first_turn_now n.mode (length r.lives) n (with_kept n r)) new (opened_line n (prerequisites r.lives n.latches)) a b c w)

@@ -18,14 +18,17 @@ use Rattle.latch_model.specs.declared.history.Entry.TheVariants.{Begun, Ended}
 use Rattle.latch_model.specs.declared.history.Fault.{Fault}
 use Rattle.latch_model.specs.declared.history.Grant.{Grant}
 use Rattle.report.specs.Words.{summary_of}
-use Rattle.step_run.specs.State.{Granted, Named, Optimistic, Over, Pending, Phase, State, has_cause}
-use Rattle.step_run.specs.Steps.{is_over, writes_in}
+use Rattle.latch_model.specs.Checks.{has_cause}
+use Rattle.step_run.specs.State.{Granted, Named, Optimistic, Over, Pending, Phase, State}
+use Rattle.latch_model.specs.Metrics.{writes_in}
+use Rattle.step_run.specs.Steps.{is_over}
 use Rattle.step_run.specs.Running.{Kept, Running}
 use Rattle.step_run.specs.declared.live.Stage.{Stage}
 use Rattle.step_run.specs.declared.live.Stage.TheVariants.{Optimistic as stage_optimistic, Pending as stage_pending, Granted as stage_granted, Over as stage_over}
-use Rattle.step_run.proofs.Lists.{Each, Each-at_map, Each-filter, Each-map, filter-map, filter_yes, map_agree}
+use Rattle.latch_model.proofs.Elements.{Each, Each-at_map, Each-filter, Each-map, filter-map, filter_yes, map_agree}
 use Rattle.step_run.proofs.Order.{unlaned}
-use Rattle.step_run.proofs.Growing.{begins-append, has_begun-append, has_ended-append, in_front-append, latches_of-append, open_begins_begun, open_begins_ended, begins_self}
+use Rattle.latch_model.proofs.Growing.{begins-append, begins-end}
+use Rattle.step_run.proofs.Growing.{has_begun-append, has_ended-append, in_front-append, latches_of-append, open_begins_begun, open_begins_ended, begins_self}
 use Rattle.step_run.proofs.Places.{Each-at, Each-remove, Each-set, Rising, Rising-push, Rising-remove, filter-remove, filter_over, map-filter-set, map-set_same}
 
 abbrev pub stage_of : Phase → Stage
@@ -47,7 +50,7 @@ kept_of h n = record {
   passed = is_some n.passed;
   poisoned = has_cause n.cause;
   latches = latches_of h n.id;
-  front = map unlaned (latches_held (in_front h n.id));
+  held_before = map unlaned (latches_held (in_front h n.id));
 }
 
 -- the number of the last request with a write latch in a scope
@@ -154,13 +157,10 @@ begun_stays h t ns e =
 or_no : (a b : Bool) → a ≡ false → b ≡ false → (a || (b || false)) ≡ false
 or_no a b e f = ap (λ c. c || (b || false)) e ∙ ap (λ c. c || false) f
 
-pub begins_ended : (h : List Entry) (id who : ℕ) (grant : Grant) (poison : Cause) (fault : Fault) → begins (h ++ Ended id who grant poison fault ∷ []) ≡ begins h
-begins_ended h id who grant poison fault = begins-append h (Ended id who grant poison fault ∷ []) ∙ append-nil (begins h)
-
 pub valid_end : (h : List Entry) (ns : List Named) (i : ℕ) (n m : Named) (who : ℕ) (grant : Grant) (poison : Cause) (fault : Fault) → slice_get ns i ≡ Some n → m.id ≡ n.id → m.phase ≡ Over → Valid h ns → Valid (h ++ Ended n.id who grant poison fault ∷ []) (slice_set ns i m)
 valid_end h ns i n m who grant poison fault at a o v =
     let x : Entry = Ended n.id who grant poison fault in
-    let same : begins (h ++ x ∷ []) ≡ begins h = begins_ended h n.id who grant poison fault in
+    let same : begins (h ++ x ∷ []) ≡ begins h = begins-end h n.id who grant poison fault in
     let here : has_begun h n.id ≡ true = Each-at (λ (n : Named). has_begun h n.id ≡ true) ns i n at v.begun in
     let low : n.id ≤ length (begins h) = begun_low h ns n.id v here in
     record {

@@ -9,7 +9,7 @@ use Rattle.span_key.specs.declared.scopes.Scope.{Scope}
 use Rattle.span_key.specs.declared.scopes.Scope.TheVariants.{Global, Local}
 use Rattle.latch_model.specs.Declaration.{Declaration}
 use Rattle.latch_model.specs.Latches.{some_conflict}
-use Rattle.latch_model.specs.Histories.{Begin, HeldLatch, ascending, before, begins, free_lane, has_begun, held, in_front, latches_held, latches_of, met}
+use Rattle.latch_model.specs.Histories.{Begin, HeldLatch, ascending, before, begins, free_lane, has_begun, held, in_front, latches_held, latches_of, listed, met}
 use Rattle.latch_model.specs.declared.latch.Access.TheVariants.{Read, Write}
 use Rattle.latch_model.specs.declared.latch.Latch.{Latch}
 use Rattle.latch_model.specs.declared.latch.Mode.{Mode}
@@ -25,19 +25,23 @@ use Rattle.report.specs.Words.{is_cancelled, is_checked, is_granted, is_never, i
 use Rattle.script.specs.Commands.{same_name}
 use Rattle.script.specs.declared.command.Command.{Command}
 use Rattle.script.specs.declared.command.Command.TheVariants.{Begin as Open, Wait, Check, Poison, Release, Metrics}
-use Rattle.step_run.specs.State.{Granted, Named, Optimistic, Over, Pending, Phase, State, ended, has_cause, replaced, with_name, without}
-use Rattle.step_run.specs.Steps.{Step, checked, checked_unless, count_latches, counts_text, first_phase, first_turn, from_last_writer, held_among, is_declared, is_over, line, met_first, metrics_line, new_name, on_found, on_name, one, opening, passed_grant, poisoned, released, released_state, silent, turn, waited, with_new, writes_in}
+use Rattle.latch_model.specs.Checks.{has_cause}
+use Rattle.step_run.specs.State.{Granted, Named, Optimistic, Over, Pending, Phase, State, ended, replaced, with_name, without}
+use Rattle.latch_model.specs.Checks.{is_declared}
+use Rattle.latch_model.specs.Metrics.{held_count, pending_count, writes_in}
+use Rattle.step_run.specs.Steps.{Step, checked, checked_unless, counts_text, first_phase, first_turn, is_over, line, met_first, metrics_line, new_name, on_found, on_name, one, opening, passed_grant, poisoned, released, released_state, silent, turn, waited, with_new}
 use Rattle.step_run.specs.Running.{Kept, Running, Stepped, Turned, at_kept, at_place, check_now, checked_against, checked_now, count_now, counts_now, ending_of, entries_of, first_turn_now, held_from, kept_line, kept_silent, metrics_now, new_kept, on_kept, one_now, opening_now, poison_now, prerequisites, released_now, stage_at_first, stepped, turn_at, waited_now, with_ending, with_kept, with_lives}
 use Rattle.step_run.specs.declared.live.Ending.{Ending}
 use Rattle.step_run.specs.declared.live.Ending.TheVariants.{Granted as by_grant, Checked as by_check, Never as by_never}
-use Rattle.step_run.proofs.Lists.{Each, Each-map, head}
+use Rattle.latch_model.proofs.Elements.{Each, Each-map, head}
 use Rattle.step_run.proofs.Order.{unlaned}
-use Rattle.step_run.proofs.Growing.{begins-append, in_front_new, latches_of_new}
+use Rattle.latch_model.proofs.Growing.{begins-append, begins-end}
+use Rattle.step_run.proofs.Growing.{in_front_new, latches_of_new}
 use Rattle.step_run.proofs.Meeting.{captured_declared, meeting}
 use Rattle.step_run.proofs.Holding.{before_same, count_same, held_same, over_stage_is, pending_same}
 use Rattle.step_run.proofs.Places.{find_by_place, get-map, position_map, get-set, get_push, map-remove, remove-set, set_same}
-use Rattle.step_run.proofs.Standing.{Valid, begins_ended, kept-append, kept_of, last_writer, running_of, stage_of, valid_begin, valid_end, valid_remove, valid_set}
-use Rattle.step_run.proofs.Turning.{AgreesAt, named_agrees, named_lives, not_counted, replaced_at, running_made, summary_checked, summary_granted, summary_made, summary_never, turn_agrees, without_at}
+use Rattle.step_run.proofs.Standing.{Valid, kept-append, kept_of, last_writer, running_of, stage_of, valid_begin, valid_end, valid_remove, valid_set}
+use Rattle.step_run.proofs.Turning.{AgreesAt, mark-listed, named_agrees, named_lives, not_counted, replaced_at, running_made, summary_checked, summary_granted, summary_made, summary_never, turn_agrees, without_at}
 
 -- What a command does to a state is what it does to what is kept.
 pub record Agrees (a : Step) (t : Stepped) : Type 0 where
@@ -110,12 +114,22 @@ all_declared ls asked e =
     (none_passes (λ l. not (is_declared ls l)) asked
     (no_place (position_or_len (λ l. not (is_declared ls l)) asked) (length asked) (nat_lt (position_or_len (λ l. not (is_declared ls l)) asked) (length asked)) refl e))
 
+checked-listed : (k : Kept) (o : Option HeldLatch) → checked_against k (option_map listed o) ≡ checked_against k o
+checked-listed k None = refl
+checked-listed k (Some x) = ap met_one (mark-listed x)
+  where
+    met_one : List ℕ → Turned
+    met_one text = record { written = kept_line k (codes "met " ++ decimal x.by ++ 32 ∷ text); live = record k { passed = false }; ending = None }
+
 checked_agrees : (s : State) (i : ℕ) (n : Named) (asked : List Latch) (o : Option ℕ) → position (λ l. not (is_declared (latches_of s.history n.id) l)) asked ≡ o → slice_get s.names i ≡ Some n → Valid s.history s.names → Agrees (checked_unless o n s asked) (stepped i (checked_now (kept_of s.history n) asked o) (running_of s))
 checked_agrees s i n asked (Some index) p at v = same_agrees s i n (line n (codes "undeclared " ++ decimal index)) at v
 checked_agrees s i n asked None p at v =
-    subst (λ o. Agrees (met_first n s asked (met s.history n.id asked)) (stepped i (checked_against (kept_of s.history n) o) (running_of s)))
+    let own : List Latch = latches_of s.history n.id in
+    subst (λ t. Agrees (met_first n s asked (met s.history n.id asked)) (stepped i t (running_of s)))
+    (ap (λ o. checked_against (kept_of s.history n) o)
     (ap (λ xs. option_map unlaned (head xs)) (sym (filter_true (met s.history n.id asked)))
-    ∙ meeting s.history n.id (λ j. true) asked (captured_declared (latches_of s.history n.id) asked (all_declared (latches_of s.history n.id) asked p)))
+    ∙ meeting s.history n.id (λ j. true) asked (captured_declared own asked (all_declared own asked p)))
+    ∙ checked-listed (kept_of s.history n) _)
     (met_first_agrees s i n asked (met s.history n.id asked) at v)
 
 -- poison
@@ -161,8 +175,8 @@ ended_release s i n grant ending at q v =
           ∙ map-remove (kept_of (s.history ++ x ∷ [])) s.names i
           ∙ ap (λ ks. remove ks i) (kept-append s.history (x ∷ []) s.names v.begun))
           (length-append s.history (x ∷ [])) q
-          (ap (λ bs. last_writer Global 0 bs) (begins_ended s.history n.id n.session grant n.cause no_fault))
-          (ap (λ bs. last_writer Local 0 bs) (begins_ended s.history n.id n.session grant n.cause no_fault));
+          (ap (λ bs. last_writer Global 0 bs) (begins-end s.history n.id n.session grant n.cause no_fault))
+          (ap (λ bs. last_writer Local 0 bs) (begins-end s.history n.id n.session grant n.cause no_fault));
       valid = subst (λ ns. Valid (s.history ++ x ∷ []) ns) (remove-set s.names i over ∙ sym gone) left;
     }
 
@@ -210,7 +224,7 @@ first_turn_agrees s i n Acquire at o v = at_agrees s i (turn n s) _ (turn_agrees
 first_turn_agrees s i n optimistic_mode at o v = silent_agrees s v
 first_turn_agrees s i n Look at o v = at_agrees s i (turn n s) _ (turn_agrees s i n at o v)
 
-kept_made : (k k' : Kept) → k.name ≡ k'.name → k.id ≡ k'.id → k.mode ≡ k'.mode → k.policy ≡ k'.policy → k.turns ≡ k'.turns → k.counted ≡ k'.counted → k.stage ≡ k'.stage → k.passed ≡ k'.passed → k.poisoned ≡ k'.poisoned → k.latches ≡ k'.latches → k.front ≡ k'.front → k ≡ k'
+kept_made : (k k' : Kept) → k.name ≡ k'.name → k.id ≡ k'.id → k.mode ≡ k'.mode → k.policy ≡ k'.policy → k.turns ≡ k'.turns → k.counted ≡ k'.counted → k.stage ≡ k'.stage → k.passed ≡ k'.passed → k.poisoned ≡ k'.poisoned → k.latches ≡ k'.latches → k.held_before ≡ k'.held_before → k ≡ k'
 kept_made k k' a b c d e f g h i j l =
     ap (λ x. let r : Kept = record k { name = x } in r) a
     ∙ ap (λ x. let r : Kept = record k { name = k'.name; id = x } in r) b
@@ -219,10 +233,10 @@ kept_made k k' a b c d e f g h i j l =
     ∙ ap (λ x. let r : Kept = record k { name = k'.name; id = k'.id; mode = k'.mode; policy = k'.policy; turns = x } in r) e
     ∙ ap (λ x. let r : Kept = record k { name = k'.name; id = k'.id; mode = k'.mode; policy = k'.policy; turns = k'.turns; counted = x } in r) f
     ∙ ap (λ x. let r : Kept = record k { name = k'.name; id = k'.id; mode = k'.mode; policy = k'.policy; turns = k'.turns; counted = k'.counted; stage = x } in r) g
-    ∙ ap (λ x. let r : Kept = record k' { passed = x; poisoned = k.poisoned; latches = k.latches; front = k.front } in r) h
-    ∙ ap (λ x. let r : Kept = record k' { poisoned = x; latches = k.latches; front = k.front } in r) i
-    ∙ ap (λ x. let r : Kept = record k' { latches = x; front = k.front } in r) j
-    ∙ ap (λ x. let r : Kept = record k' { front = x } in r) l
+    ∙ ap (λ x. let r : Kept = record k' { passed = x; poisoned = k.poisoned; latches = k.latches; held_before = k.held_before } in r) h
+    ∙ ap (λ x. let r : Kept = record k' { poisoned = x; latches = k.latches; held_before = k.held_before } in r) i
+    ∙ ap (λ x. let r : Kept = record k' { latches = x; held_before = k.held_before } in r) j
+    ∙ ap (λ x. let r : Kept = record k' { held_before = x } in r) l
 
 opening_agrees : (s : State) (session : ℕ) (name : List ℕ) (mode : Mode) (policy : Policy) (turns : Option ℕ) (latches : List Latch) → Valid s.history s.names → Agrees (opening s session name mode policy turns latches) (opening_now (running_of s) name mode policy turns latches)
 opening_agrees s session name mode policy turns latches v =
@@ -268,8 +282,8 @@ opening_agrees s session name mode policy turns latches v =
 -- metrics
 counts_same : (h : List Entry) (ns : List Named) (scope : Scope) → Valid h ns → counts_text scope h ≡ counts_now scope (last_writer scope 0 (begins h)) (map (kept_of h) ns)
 counts_same h ns scope v =
-    ap (λ n. codes " read " ++ decimal n ++ codes " pending " ++ decimal (count_latches scope Read (held_among h (from_last_writer scope (begins h)))) ++ codes " write " ++ decimal (count_latches scope Write (held_among h (begins h)))) (count_same h ns scope Read v)
-    ∙ ap (λ n. codes " read " ++ decimal (count_now scope Read (held_from 0 (map (kept_of h) ns))) ++ codes " pending " ++ decimal n ++ codes " write " ++ decimal (count_latches scope Write (held_among h (begins h)))) (pending_same h ns scope v)
+    ap (λ n. codes " read " ++ decimal n ++ codes " pending " ++ decimal (pending_count scope h) ++ codes " write " ++ decimal (held_count scope Write h)) (count_same h ns scope Read v)
+    ∙ ap (λ n. codes " read " ++ decimal (count_now scope Read (held_from 0 (map (kept_of h) ns))) ++ codes " pending " ++ decimal n ++ codes " write " ++ decimal (held_count scope Write h)) (pending_same h ns scope v)
     ∙ ap (λ n. codes " read " ++ decimal (count_now scope Read (held_from 0 (map (kept_of h) ns))) ++ codes " pending " ++ decimal (count_now scope Read (held_from (last_writer scope 0 (begins h)) (map (kept_of h) ns))) ++ codes " write " ++ decimal n) (count_same h ns scope Write v)
 
 metrics_same : (s : State) → Valid s.history s.names → metrics_line s.history ≡ metrics_now (running_of s)

@@ -7,7 +7,7 @@ use Rattle.std.proofs.lemmas.List.{length-append}
 use Rattle.std.proofs.lemmas.List.Sums.{sum_by_push}
 use Rattle.std.proofs.lemmas.Bool.{eq-eqb, ne_eqb}
 use Rattle.span_key.specs.declared.scopes.Scope.TheVariants.{Global, Local}
-use Rattle.latch_model.specs.Histories.{HeldLatch, has_begun, has_ended, latches_of, met}
+use Rattle.latch_model.specs.Histories.{HeldLatch, has_begun, has_ended, latches_of, listed, met}
 use Rattle.latch_model.specs.declared.latch.Latch.{Latch}
 use Rattle.latch_model.specs.declared.latch.Mode.{Mode}
 use Rattle.latch_model.specs.declared.latch.Mode.TheVariants.{Acquire, Optimistic as optimistic_mode, Look}
@@ -21,19 +21,23 @@ use Rattle.latch_model.specs.declared.history.Fault.{Fault}
 use Rattle.latch_model.specs.declared.history.Fault.TheVariants.{None as no_fault, Poisoned, Cancelled}
 use Rattle.latch_model.specs.declared.history.Grant.{Grant}
 use Rattle.latch_model.specs.declared.history.Grant.TheVariants.{Never, Waited, Checked}
+use Rattle.latch_model.proofs.LatchLaws.{normal-at_normal}
 use Rattle.report.specs.declared.counts.Summary.{Summary}
-use Rattle.report.specs.Words.{count_ended, ended_by, is_cancelled, is_checked, is_granted, is_never, is_poisoned, mark_text, summary_of}
-use Rattle.step_run.specs.State.{Granted, Named, Over, State, ended, has_cause, is_poisoned_in, replaced, with_name, without}
+use Rattle.report.specs.Words.{count_ended, ended_by, is_cancelled, is_checked, is_granted, is_never, is_poisoned, mark_text, marked, summary_of}
+use Rattle.latch_model.specs.Checks.{has_cause}
+use Rattle.step_run.specs.State.{Granted, Named, Over, State, ended, is_poisoned_in, replaced, with_name, without}
 use Rattle.step_run.specs.Steps.{Step, after, blocked, blocked_line, by_poisoned, decided_by, granted, is_over, line, spent_turn, turn}
-use Rattle.step_run.specs.Running.{Kept, Running, Turned, blocked_by, blocked_now, by_poisoned_now, decided_now, granted_now, kept_line, put, spent, turn_now, turned_at, with_ending}
+use Rattle.step_run.specs.Running.{Kept, Running, Turned, blocked_by, blocked_now, blocker, by_poisoned_now, decided_now, granted_now, is_poisoned_among}
+use Rattle.step_run.specs.Running.{kept_line, put, spent, spread_now, turn_now, turned_at, with_ending, with_poison}
 use Rattle.step_run.specs.declared.live.Ending.{Ending}
 use Rattle.step_run.specs.declared.live.Ending.TheVariants.{Granted as by_grant, Checked as by_check, Poisoned as by_poison, Cancelled as by_cancel, Never as by_never}
 use Rattle.step_run.specs.declared.live.Stage.TheVariants.{Over as stage_over}
-use Rattle.step_run.proofs.Lists.{head}
+use Rattle.latch_model.proofs.Elements.{head}
+use Rattle.latch_model.proofs.Growing.{begins-end}
 use Rattle.step_run.proofs.Order.{unlaned}
 use Rattle.step_run.proofs.Holding.{blocker_same, poisoned_same}
 use Rattle.step_run.proofs.Places.{Each-at, Each-set, Rising, below_at, map-set}
-use Rattle.step_run.proofs.Standing.{IsAlike, Valid, begins_ended, kept-append, kept_of, last_writer, running_of, valid_end, valid_set}
+use Rattle.step_run.proofs.Standing.{IsAlike, Valid, kept-append, kept_of, last_writer, running_of, valid_end, valid_set}
 
 -- a name by its place
 pub replaced_at : (ns : List Named) (i : ℕ) (n m : Named) → slice_get ns i ≡ Some n → m.id ≡ n.id → Rising (map (λ (n : Named). n.id) ns) → replaced m ns ≡ slice_set ns i m
@@ -75,27 +79,27 @@ not_counted test h x e = count_push test h x ∙ ap (λ b. count_ended test h + 
 pub summary_granted : (h : List Entry) (id who front : ℕ) (poison : Cause) → summary_of (h ++ Ended id who (Waited front) poison no_fault ∷ []) ≡ with_ending (Some by_grant) (summary_of h)
 summary_granted h id who front poison =
     let x : Entry = Ended id who (Waited front) poison no_fault in
-    summary_made _ _ _ _ _ _ _ _ _ _ _ _ (ap length (begins_ended h id who (Waited front) poison no_fault)) (count_push is_granted h x) (not_counted is_checked h x refl) (not_counted is_poisoned h x refl) (not_counted is_cancelled h x refl) (not_counted is_never h x refl)
+    summary_made _ _ _ _ _ _ _ _ _ _ _ _ (ap length (begins-end h id who (Waited front) poison no_fault)) (count_push is_granted h x) (not_counted is_checked h x refl) (not_counted is_poisoned h x refl) (not_counted is_cancelled h x refl) (not_counted is_never h x refl)
 
 pub summary_checked : (h : List Entry) (id who : ℕ) (asked : List Latch) (poison : Cause) → summary_of (h ++ Ended id who (Checked asked) poison no_fault ∷ []) ≡ with_ending (Some by_check) (summary_of h)
 summary_checked h id who asked poison =
     let x : Entry = Ended id who (Checked asked) poison no_fault in
-    summary_made _ _ _ _ _ _ _ _ _ _ _ _ (ap length (begins_ended h id who (Checked asked) poison no_fault)) (not_counted is_granted h x refl) (count_push is_checked h x) (not_counted is_poisoned h x refl) (not_counted is_cancelled h x refl) (not_counted is_never h x refl)
+    summary_made _ _ _ _ _ _ _ _ _ _ _ _ (ap length (begins-end h id who (Checked asked) poison no_fault)) (not_counted is_granted h x refl) (count_push is_checked h x) (not_counted is_poisoned h x refl) (not_counted is_cancelled h x refl) (not_counted is_never h x refl)
 
 pub summary_never : (h : List Entry) (id who : ℕ) (poison : Cause) → summary_of (h ++ Ended id who Never poison no_fault ∷ []) ≡ with_ending (Some by_never) (summary_of h)
 summary_never h id who poison =
     let x : Entry = Ended id who Never poison no_fault in
-    summary_made _ _ _ _ _ _ _ _ _ _ _ _ (ap length (begins_ended h id who Never poison no_fault)) (not_counted is_granted h x refl) (not_counted is_checked h x refl) (not_counted is_poisoned h x refl) (not_counted is_cancelled h x refl) (count_push is_never h x)
+    summary_made _ _ _ _ _ _ _ _ _ _ _ _ (ap length (begins-end h id who Never poison no_fault)) (not_counted is_granted h x refl) (not_counted is_checked h x refl) (not_counted is_poisoned h x refl) (not_counted is_cancelled h x refl) (count_push is_never h x)
 
 summary_poisoned : (h : List Entry) (id who p : ℕ) (poison : Cause) → summary_of (h ++ Ended id who Never poison (Poisoned p) ∷ []) ≡ with_ending (Some by_poison) (summary_of h)
 summary_poisoned h id who p poison =
     let x : Entry = Ended id who Never poison (Poisoned p) in
-    summary_made _ _ _ _ _ _ _ _ _ _ _ _ (ap length (begins_ended h id who Never poison (Poisoned p))) (not_counted is_granted h x refl) (not_counted is_checked h x refl) (count_push is_poisoned h x) (not_counted is_cancelled h x refl) (not_counted is_never h x refl)
+    summary_made _ _ _ _ _ _ _ _ _ _ _ _ (ap length (begins-end h id who Never poison (Poisoned p))) (not_counted is_granted h x refl) (not_counted is_checked h x refl) (count_push is_poisoned h x) (not_counted is_cancelled h x refl) (not_counted is_never h x refl)
 
 summary_cancelled : (h : List Entry) (id who turns : ℕ) (poison : Cause) → summary_of (h ++ Ended id who Never poison (Cancelled turns) ∷ []) ≡ with_ending (Some by_cancel) (summary_of h)
 summary_cancelled h id who turns poison =
     let x : Entry = Ended id who Never poison (Cancelled turns) in
-    summary_made _ _ _ _ _ _ _ _ _ _ _ _ (ap length (begins_ended h id who Never poison (Cancelled turns))) (not_counted is_granted h x refl) (not_counted is_checked h x refl) (not_counted is_poisoned h x refl) (count_push is_cancelled h x) (not_counted is_never h x refl)
+    summary_made _ _ _ _ _ _ _ _ _ _ _ _ (ap length (begins-end h id who Never poison (Cancelled turns))) (not_counted is_granted h x refl) (not_counted is_checked h x refl) (not_counted is_poisoned h x refl) (count_push is_cancelled h x) (not_counted is_never h x refl)
 
 -- What a step of a state does is what happens to what is kept, at a place.
 pub record AgreesAt (s : State) (i : ℕ) (a : Step) (t : Turned) : Type 0 where
@@ -136,8 +140,8 @@ ended_agrees s i n m text grant fault ending at a q v =
     record {
       written = refl;
       run = running_made _ _ _ _ _ _ _ _ _ _ (ended_lives s.history s.names i n over x at a v) (length-append s.history (x ∷ [])) q
-          (ap (λ bs. last_writer Global 0 bs) (begins_ended s.history m.id m.session grant m.cause fault))
-          (ap (λ bs. last_writer Local 0 bs) (begins_ended s.history m.id m.session grant m.cause fault));
+          (ap (λ bs. last_writer Global 0 bs) (begins-end s.history m.id m.session grant m.cause fault))
+          (ap (λ bs. last_writer Local 0 bs) (begins-end s.history m.id m.session grant m.cause fault));
       valid = subst (λ ns. Valid (s.history ++ x ∷ []) ns) (sym (replaced_at s.names i n over at a v.rising))
           (subst (λ j. Valid (s.history ++ Ended j m.session grant m.cause fault ∷ []) (slice_set s.names i over)) (sym a)
           (valid_end s.history s.names i n over m.session grant m.cause fault at a refl v));
@@ -196,8 +200,37 @@ decided_agrees s i n (x ∷ xs) at o v =
     subst (λ t. AgreesAt s i (cond (is_poisoned_in s.names x.by) (by_poisoned n.policy n s x) (blocked n s x)) (blocked_by t (kept_of s.history n) (unlaned x)))
     (poisoned_same s.history s.names x.by) (met_agrees s i n x (is_poisoned_in s.names x.by) at v)
 
-pub turn_agrees : (s : State) (i : ℕ) (n : Named) → slice_get s.names i ≡ Some n → is_over n.phase ≡ false → Valid s.history s.names → AgreesAt s i (turn n s) (turn_now (kept_of s.history n) (length s.history) (map (kept_of s.history) s.names))
+-- What is written of a held latch shows its normal stamp, so it is the same where the latch is listed.
+pub mark-listed : (x : HeldLatch) → mark_text (listed x).latch ≡ mark_text x.latch
+mark-listed x = ap (marked x.latch.span) (normal-at_normal x.latch)
+
+blocked-listed : (k : Kept) (x : HeldLatch) → blocked_now k (listed x) ≡ blocked_now k x
+blocked-listed k x = ap (λ text. put (kept_line k (codes "blocked " ++ decimal x.by ++ 32 ∷ text)) (spent k k.turns)) (mark-listed x)
+
+by_poisoned-listed : (policy : Policy) (k : Kept) (x : HeldLatch) → by_poisoned_now policy k (listed x) ≡ by_poisoned_now policy k x
+by_poisoned-listed policy_wait k x = ap (λ t. put (spread_now k x.by) t) (blocked-listed (with_poison k) x)
+by_poisoned-listed policy_error k x = ap failed (mark-listed x)
+  where
+    failed : List ℕ → Turned
+    failed text = record {
+      written = kept_line k (codes "poisoned " ++ decimal x.by ++ 32 ∷ text);
+      live = record k { stage = stage_over };
+      ending = Some by_poison;
+    }
+
+blocked_by-listed : (poisoned : Bool) (k : Kept) (x : HeldLatch) → blocked_by poisoned k (listed x) ≡ blocked_by poisoned k x
+blocked_by-listed true k x = by_poisoned-listed k.policy k x
+blocked_by-listed false k x = blocked-listed k x
+
+decided-listed : (k : Kept) (entries : ℕ) (lives : List Kept) (o : Option HeldLatch) → decided_now k entries lives (option_map listed o) ≡ decided_now k entries lives o
+decided-listed k entries lives None = refl
+decided-listed k entries lives (Some x) = blocked_by-listed (is_poisoned_among lives x.by) k x
+
+pub turn_agrees : (s : State) (i : ℕ) (n : Named) → slice_get s.names i ≡ Some n → is_over n.phase ≡ false → Valid s.history s.names →
+    AgreesAt s i (turn n s) (turn_now (kept_of s.history n) (length s.history) (map (kept_of s.history) s.names))
 turn_agrees s i n at o v =
-    subst (λ met. AgreesAt s i (turn n s) (decided_now (kept_of s.history n) (length s.history) (map (kept_of s.history) s.names) met))
-    (blocker_same s.history s.names n v)
+    let k : Kept = kept_of s.history n in
+    let lives : List Kept = map (kept_of s.history) s.names in
+    subst (λ t. AgreesAt s i (turn n s) t)
+    (ap (λ met. decided_now k (length s.history) lives met) (blocker_same s.history s.names n v) ∙ decided-listed k (length s.history) lives (blocker k lives))
     (decided_agrees s i n (filter (λ (x : HeldLatch). not (has_ended s.history x.by)) (met s.history n.id (latches_of s.history n.id))) at o v)

@@ -12,7 +12,7 @@ pub record IsLastLine (text line : List ℕ) : Type 0 where
   pub from : ℕ
   pub inside : from < length text
   pub rest : line ≡ drop from text
-  pub begins : (from ≡ 0) ⊎ (slice_index text (from - 1) ≡ 10)
+  pub starts : (from ≡ 0) ⊎ (slice_index text (from - 1) ≡ 10)
   pub one_feed : (k : ℕ) → from ≤ k → k + 1 < length text → slice_index text k ≢ 10
 
 -- The same, computed: the line feed at the end, and as many bytes in front of it as are none.

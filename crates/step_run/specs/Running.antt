@@ -19,13 +19,14 @@ use Rattle.report.specs.Words.{mark_text, numbers_text}
 use Rattle.script.specs.Commands.{same_name}
 use Rattle.script.specs.declared.command.Command.{Command}
 use Rattle.script.specs.declared.command.Command.TheVariants.{Begin as Open, Wait, Check, Poison, Release, Metrics}
-use Rattle.step_run.specs.Steps.{is_declared}
+use Rattle.latch_model.specs.Checks.{is_declared}
 use Rattle.step_run.specs.declared.live.Ending.{Ending}
 use Rattle.step_run.specs.declared.live.Ending.TheVariants.{Granted as by_grant, Checked as by_check, Poisoned as by_poison, Cancelled as by_cancel, Never as by_never}
 use Rattle.step_run.specs.declared.live.Stage.{Stage}
 use Rattle.step_run.specs.declared.live.Stage.TheVariants.{Optimistic, Pending, Granted, Over}
 
--- What is kept of a live name. `front` is the latches that were held in front of its begin, in the order of their begins; lanes are left out.
+-- What is kept of a live name. `held_before` is the latches that were held in front of its begin, in the order of their begins; lanes are
+-- left out.
 pub record Kept : Type 0 where
   pub name : List ℕ
   pub id : ℕ
@@ -37,7 +38,7 @@ pub record Kept : Type 0 where
   pub passed : Bool
   pub poisoned : Bool
   pub latches : List Latch
-  pub front : List HeldLatch
+  pub held_before : List HeldLatch
 
 -- What is kept in place of a state: the live names, how many entries there are, the counts of the last line, and for each scope the number of
 -- the last request that had a write latch there, or 0.
@@ -89,6 +90,11 @@ abbrev pub earlier : HeldLatch → Option HeldLatch → HeldLatch
 earlier x None = x
 earlier x (Some y) = if comes_first y x then y else x
 
+-- the first of one that came first so far and another that follows it
+abbrev pub first_yet : Option HeldLatch → HeldLatch → HeldLatch
+first_yet None x = x
+first_yet (Some y) x = if comes_first x y then x else y
+
 abbrev pub first_of : List HeldLatch → Option HeldLatch
 first_of [] = None
 first_of (x ∷ xs) = Some (earlier x (first_of xs))
@@ -98,22 +104,22 @@ abbrev pub meets : Access → Latch → HeldLatch → Bool
 meets access l x = has_access access x.latch && conflict l x.latch
 
 abbrev pub first_in : (HeldLatch → Bool) → List HeldLatch → Access → Latch → Option HeldLatch
-first_in test front access l = first_of (filter (λ x. meets access l x && test x) front)
+first_in test held access l = first_of (filter (λ x. meets access l x && test x) held)
 
 abbrev pub first_for : (HeldLatch → Bool) → List HeldLatch → Latch → Option HeldLatch
-first_for test front l = option_or (first_in test front Write l) (if writes l.access then first_in test front Read l else None)
+first_for test held l = option_or (first_in test held Write l) (if writes l.access then first_in test held Read l else None)
 
 -- the first that some latches meet, one after another
 abbrev pub first_met : (HeldLatch → Bool) → List HeldLatch → List Latch → Option HeldLatch
-first_met test front [] = None
-first_met test front (l ∷ ls) = option_or (first_for test front l) (first_met test front ls)
+first_met test held [] = None
+first_met test held (l ∷ ls) = option_or (first_for test held l) (first_met test held ls)
 
 -- The first that some latches meet in the waiting order: global before local, and in each reads before writes.
 abbrev pub first_in_scope : (HeldLatch → Bool) → List HeldLatch → List Latch → Scope → Option HeldLatch
-first_in_scope test front asks scope = option_or (first_met test front (those_of scope Read asks)) (first_met test front (those_of scope Write asks))
+first_in_scope test held asks scope = option_or (first_met test held (those_of scope Read asks)) (first_met test held (those_of scope Write asks))
 
 abbrev pub first_waiting : (HeldLatch → Bool) → List HeldLatch → List Latch → Option HeldLatch
-first_waiting test front asks = option_or (first_in_scope test front asks Global) (first_in_scope test front asks Local)
+first_waiting test held asks = option_or (first_in_scope test held asks Global) (first_in_scope test held asks Local)
 
 -- What a command does to the live name that it is about: what is written, the name afterwards, and how its request has ended, if it has.
 pub record Turned : Type 0 where
@@ -179,7 +185,7 @@ decided_now n entries lives met = decided_if n entries (poisoned_met lives met) 
 
 -- what a turn of one name meets among the live ones
 abbrev pub blocker : Kept → List Kept → Option HeldLatch
-blocker n lives = first_waiting (λ x. is_open_among lives x.by) n.front n.latches
+blocker n lives = first_waiting (λ x. is_open_among lives x.by) n.held_before n.latches
 
 abbrev pub turn_now : Kept → ℕ → List Kept → Turned
 turn_now n entries lives = decided_now n entries lives (blocker n lives)
@@ -243,7 +249,7 @@ checked_against n (Some x) = record {
 
 abbrev pub checked_now : Kept → List Latch → Option ℕ → Turned
 checked_now n asked (Some index) = record { written = kept_line n (codes "undeclared " ++ decimal index); live = n; ending = None }
-checked_now n asked None = checked_against n (first_waiting (λ x. true) n.front asked)
+checked_now n asked None = checked_against n (first_waiting (λ x. true) n.held_before asked)
 
 abbrev pub check_now : Kept → List Latch → Turned
 check_now n asked = checked_now n asked (position (λ l. not (is_declared n.latches l)) asked)
@@ -299,7 +305,7 @@ new_kept r name mode policy turns latches = record {
   passed = false;
   poisoned = false;
   latches = latches;
-  front = held_now r.lives;
+  held_before = held_now r.lives;
 }
 
 abbrev pub with_kept : Kept → Running → Running

@@ -1,11 +1,11 @@
 -- The state of a step run: a history, and what is known of each live name.
 use Rattle.std.specs.Prelude.{ℕ, Bool, true, false, if◌then◌else◌, List, [], ◌∷◌, ◌++◌, Option, ◌==◌}
 use Rattle.std.specs.List.{list_any}
+use Rattle.latch_model.specs.Checks.{has_cause}
 use Rattle.latch_model.specs.declared.latch.Latch.{Latch}
 use Rattle.latch_model.specs.declared.latch.Mode.{Mode}
 use Rattle.latch_model.specs.declared.latch.Policy.{Policy}
 use Rattle.latch_model.specs.declared.history.Cause.{Cause}
-use Rattle.latch_model.specs.declared.history.Cause.TheVariants.{None as no_cause, Called, From}
 use Rattle.latch_model.specs.declared.history.Entry.{Entry}
 use Rattle.latch_model.specs.declared.history.Entry.TheVariants.{Ended}
 use Rattle.latch_model.specs.declared.history.Fault.{Fault}
@@ -55,11 +55,6 @@ with_name n s = record { history = s.history; names = replaced n s.names; line =
 abbrev pub without : ℕ → List Named → List Named
 without id [] = []
 without id (m ∷ ms) = if m.id == id then ms else m ∷ without id ms
-
-abbrev pub has_cause : Cause → Bool
-has_cause no_cause = false
-has_cause Called = true
-has_cause (From p) = true
 
 -- whether the live name with this number has a cause
 abbrev pub is_poisoned_in : List Named → ℕ → Bool

@@ -1,11 +1,11 @@
 -- The step output of a script: what each command writes, and the state that it leaves.
 use Rattle.std.specs.Prelude.{ℕ, ◌+◌, Bool, true, false, not, ◌&&◌, ◌||◌, ◌==◌, if◌then◌else◌, List, [], ◌∷◌, ◌++◌, length, Option, Some, None, codes, decimal}
-use Rattle.std.specs.List.{count_by, filter, find, list_any, position, sum_by}
+use Rattle.std.specs.List.{filter, find, position}
 use Rattle.span_key.specs.declared.scopes.Scope.{Scope}
 use Rattle.span_key.specs.declared.scopes.Scope.TheVariants.{Global, Local}
-use Rattle.latch_model.specs.Latches.{has_access, in_scope, lies_in_latch, writes}
-use Rattle.latch_model.specs.Histories.{Begin, before, begins, free_lane, HeldLatch, has_ended, holds_latches, latches_of, met}
-use Rattle.latch_model.specs.declared.latch.Access.{Access}
+use Rattle.latch_model.specs.Checks.{has_cause, is_declared}
+use Rattle.latch_model.specs.Histories.{HeldLatch, before, begins, free_lane, has_ended, latches_of, met}
+use Rattle.latch_model.specs.Metrics.{held_count, pending_count}
 use Rattle.latch_model.specs.declared.latch.Access.TheVariants.{Read, Write}
 use Rattle.latch_model.specs.declared.latch.Latch.{Latch}
 use Rattle.latch_model.specs.declared.latch.Mode.{Mode}
@@ -22,7 +22,7 @@ use Rattle.report.specs.Words.{mark_text, numbers_text, summary_line}
 use Rattle.script.specs.Commands.{same_name}
 use Rattle.script.specs.declared.command.Command.{Command}
 use Rattle.script.specs.declared.command.Command.TheVariants.{Begin as Open, Wait, Check, Poison, Release, Metrics}
-use Rattle.step_run.specs.State.{Granted, Named, Optimistic, Over, Pending, Phase, State, ended, has_cause, is_poisoned_in, start, with_name, without}
+use Rattle.step_run.specs.State.{Granted, Named, Optimistic, Over, Pending, Phase, State, ended, is_poisoned_in, start, with_name, without}
 
 -- What a command writes, and the state after it.
 pub record Step : Type 0 where
@@ -141,9 +141,6 @@ abbrev pub met_first : Named → State → List Latch → List HeldLatch → Ste
 met_first n s asked [] = record { written = line n (codes "clear"); state = with_name (record n { passed = Some asked }) s }
 met_first n s asked (x ∷ xs) = record { written = line n (codes "met " ++ decimal x.by ++ 32 ∷ mark_text x.latch); state = with_name (record n { passed = None }) s }
 
-abbrev pub is_declared : List Latch → Latch → Bool
-is_declared declared l = list_any (lies_in_latch l) declared
-
 abbrev pub checked_unless : Option ℕ → Named → State → List Latch → Step
 checked_unless (Some index) n s asked = record { written = line n (codes "undeclared " ++ decimal index); state = s }
 checked_unless None n s asked = met_first n s asked (met s.history n.id asked)
@@ -180,27 +177,12 @@ released n s =
     let t = released_state n.phase n s in
     record { written = line n (codes "ended"); state = record { history = t.history; names = without n.id t.names; line = t.line } }
 
--- Metrics: how many latches are held, by scope and access, and how many of the held reads are pending: those of requests that began no
--- earlier than the last one that has a write latch in the scope.
-abbrev pub count_latches : Scope → Access → List Begin → ℕ
-count_latches scope access bs = sum_by (λ b. count_by (λ l. in_scope scope l && has_access access l) b.request.latches) bs
-
-abbrev pub writes_in : Scope → Begin → Bool
-writes_in scope b = list_any (λ l. in_scope scope l && writes l.access) b.request.latches
-
-abbrev pub from_last_writer : Scope → List Begin → List Begin
-from_last_writer scope [] = []
-from_last_writer scope (b ∷ bs) = if list_any (writes_in scope) bs then from_last_writer scope bs else b ∷ bs
-
--- those of some begins that hold their latches
-abbrev pub held_among : List Entry → List Begin → List Begin
-held_among h bs = filter (λ b. holds_latches b.mode && not (has_ended h b.id)) bs
-
+-- Metrics: how many latches are held, by scope and access, and how many of the held reads are pending.
 abbrev pub counts_text : Scope → List Entry → List ℕ
 counts_text scope h =
-    codes " read " ++ decimal (count_latches scope Read (held_among h (begins h)))
-    ++ codes " pending " ++ decimal (count_latches scope Read (held_among h (from_last_writer scope (begins h))))
-    ++ codes " write " ++ decimal (count_latches scope Write (held_among h (begins h)))
+    codes " read " ++ decimal (held_count scope Read h)
+    ++ codes " pending " ++ decimal (pending_count scope h)
+    ++ codes " write " ++ decimal (held_count scope Write h)
 
 abbrev pub metrics_line : List Entry → List ℕ
 metrics_line h = codes "metrics global" ++ counts_text Global h ++ codes " local" ++ counts_text Local h ++ codes "\n"

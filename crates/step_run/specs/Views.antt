@@ -22,7 +22,7 @@ seen_live n = record {
   passed = n.passed;
   poisoned = n.poisoned;
   latches = n.latches.now;
-  front = map seen_held n.front.items;
+  held_before = map seen_held n.held_before.items;
 }
 
 -- which held latches can be met: those of open requests, or all

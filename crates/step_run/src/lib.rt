@@ -28,16 +28,19 @@ pub enum RunFault {
     Memory,
 }
 
+impl From<Memory> for RunFault {
+    fn from(_refused: Memory) -> RunFault {
+        RunFault::Memory
+    }
+}
+
 /// Runs a script step by step: each command is run to its end before the next, and a wait is one turn. The bytes are the step output,
 /// whose last line counts how many requests began and how many ended in each way.
 pub fn run_step(alloc: Global, script: &Script) -> Result<Vec<u8>, RunFault>
     ensures output { IfOk result (λ out. out.items ≡ step_output script.now) }
     ensures ends { IfOk result (λ out. EndsLine out.items) }
 {
-    match output_of(alloc, script) {
-        Ok(out) => Ok(out),
-        Err(Memory) => Err(RunFault::Memory),
-    }
+    Ok(output_of(alloc, script)?)
 }
 
 // The same, with want of memory as it comes.

@@ -74,10 +74,7 @@ pub(crate) fn count_text(words: &[u8], n: u64, out: &mut Vec<u8>) -> Result<(), 
 pub(crate) fn put(bytes: &[u8], out: &mut Vec<u8>) -> Result<(), Memory>
     ensures { OnOk result (out.new.items ≡ out.old.items ++ bytes.now) }
 {
-    match out.extend_from_slice(bytes) {
-        Ok(()) => Ok(()),
-        Err(_) => Err(Memory),
-    }
+    out.extend_from_slice(bytes)
 }
 
 // A name, a space and words.

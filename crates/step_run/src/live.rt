@@ -37,7 +37,7 @@ pub(crate) enum Ending {
 }
 
 /// A live name and its request. `counted` turns have been counted, `passed` says whether a passed check stands, and `poisoned` whether
-/// the request has a cause. `front` is the latches that were held in front of its begin, in the order of their begins.
+/// the request has a cause. `held_before` is the latches that were held in front of its begin, in the order of their begins.
 #[derive(Drop)]
 pub(crate) struct Live<'s> {
     pub(crate) name: &'s Name,
@@ -50,7 +50,7 @@ pub(crate) struct Live<'s> {
     pub(crate) passed: bool,
     pub(crate) poisoned: bool,
     pub(crate) latches: &'s [Latch],
-    pub(crate) front: Vec<Held<'s>>,
+    pub(crate) held_before: Vec<Held<'s>>,
 }
 
 /// Whether a request is over.
@@ -64,7 +64,7 @@ pub(crate) fn is_over(stage: Stage) -> bool
 }
 
 /// The place of the first live name that is called so.
-pub(crate) fn place_of(lives: &[Live], name: &Name) -> Option<usize>
+pub(crate) fn live_place(lives: &[Live], name: &Name) -> Option<usize>
     ensures place { result ≡ position (λ n. same_name n.name name.now) (map seen_live lives.now) }
     ensures inside { IfSome result (λ i. i < length lives.now) }
 {

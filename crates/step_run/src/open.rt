@@ -2,7 +2,7 @@
 ghost use Rattle.std.specs.Prelude.{◌≡◌, ◌+◌, ◌++◌, ◌&&◌, map, not, IfOk, OnOk};
 ghost use Rattle.std.specs.List.{count_by, position};
 ghost use Rattle.latch_model.specs.Latches.{has_access, in_scope};
-ghost use Rattle.step_run.specs.Steps.{is_declared};
+ghost use Rattle.latch_model.specs.Checks.{is_declared};
 ghost use Rattle.step_run.specs.Running.{count_now, counts_now, held_from, holds_now, prerequisites, stage_at_first, writes_here};
 ghost use Rattle.step_run.specs.Views.{seen_live};
 
@@ -15,6 +15,7 @@ use span_key::{Memory, Scope};
 use std::alloc::Global;
 
 /// The numbers of the requests that hold a latch which conflicts with one of these.
+#[inline(never)]
 pub(crate) fn prerequisites(
     alloc: Global,
     lives: &[Live],
@@ -24,11 +25,8 @@ pub(crate) fn prerequisites(
 {
     let mut before = Vec::new(alloc);
     for live in lives {
-        if holds_latches(live)
-            && some_conflict(latches, live.latches)
-            && before.push(live.id).is_err()
-        {
-            return Err(Memory);
+        if holds_latches(live) && some_conflict(latches, live.latches) {
+            before.push(live.id)?;
         }
     }
     Ok(before)
@@ -95,6 +93,7 @@ pub(crate) fn counts_text(
 }
 
 // How many latches of a scope and access are held by requests with no lower number than this.
+#[inline(never)]
 fn count_held(lives: &[Live], scope: Scope, access: Access, least: u64) -> Result<u64, Memory>
     ensures { IfOk result (λ n. n ≡ count_now scope access (held_from least (map seen_live lives.now))) }
 {

@@ -7,9 +7,9 @@ ghost use Rattle.step_run.specs.Running.{Kept, at_kept, blocker, check_now, deci
 ghost use Rattle.step_run.specs.Views.{Counts, StepsTo, seen_held, seen_live, seen_run};
 
 use crate::lines::{opening_line, put, words_line};
-use crate::live::{Ending, Held, Live, Stage, is_met_poisoned, place_of};
+use crate::live::{Ending, Held, Live, Stage, is_met_poisoned, live_place};
 use crate::open::{counts_text, first_stage, has_write, prerequisites};
-use crate::snapshot::{held, meet};
+use crate::snapshot::{list_held, meet};
 use crate::turn::{check, decide, one_more, poison, release_ending};
 use latch_model::latch::{Latch, Mode, Policy};
 use report::Summary;
@@ -18,7 +18,7 @@ use span_key::{Memory, Scope};
 use std::alloc::Global;
 
 /// The live names in the order of their opening, how many entries there are, the counts of the last line, and for each scope the number
-/// of the last request that had a write there, or 0.
+/// of the last request that had a write there, or 0. `spare` has lists of released names, to be filled again.
 #[derive(Drop)]
 pub(crate) struct StepRun<'s> {
     pub(crate) lives: Vec<Live<'s>>,
@@ -26,6 +26,7 @@ pub(crate) struct StepRun<'s> {
     pub(crate) summary: Summary,
     pub(crate) global_writer: u64,
     pub(crate) local_writer: u64,
+    spare: Vec<Vec<Held<'s>>>,
 }
 
 // What opens a request.
@@ -55,6 +56,7 @@ pub(crate) fn start<'s>(alloc: Global) -> StepRun<'s>
         },
         global_writer: 0,
         local_writer: 0,
+        spare: Vec::new(alloc),
     }
 }
 
@@ -139,7 +141,7 @@ fn find(run: &StepRun, name: &Name) -> Option<usize>
     ensures place { result ≡ position (λ n. same_name n.name name.now) (seen_run run.now).lives }
     ensures inside { IfSome result (λ i. i < length run.now.lives.items) }
 {
-    place_of(run.lives.as_slice(), name)
+    live_place(run.lives.as_slice(), name)
 }
 
 // Opens a request: its begin is counted, and one that waits has its first turn.
@@ -151,7 +153,11 @@ fn open<'s>(
 ) -> Result<(), Memory>
     ensures { OnOk result (StepsTo (opening_now (seen_run run.old) opening.entry.name.now opening.entry.mode opening.entry.policy opening.entry.turns opening.entry.latches.now) run.new out.old.items out.new.items) }
 {
-    let live = new_live(alloc, run, opening)?;
+    let held = match run.spare.pop() {
+        Some(list) => list,
+        None => Vec::new(alloc),
+    };
+    let live = new_live(run, opening, held)?;
     write_opening(alloc, run.lives.as_slice(), &live, out)?;
     let i = run.lives.len();
     add(run, live)?;
@@ -159,11 +165,15 @@ fn open<'s>(
 }
 
 // What is kept of a request that is opened now.
-fn new_live<'s>(alloc: Global, run: &StepRun<'s>, opening: Opening<'s>) -> Result<Live<'s>, Memory>
+fn new_live<'s>(
+    run: &StepRun<'s>,
+    opening: Opening<'s>,
+    mut held_before: Vec<Held<'s>>,
+) -> Result<Live<'s>, Memory>
     ensures { IfOk result (λ live. seen_live live ≡ new_kept (seen_run run.now) opening.entry.name.now opening.entry.mode opening.entry.policy opening.entry.turns opening.entry.latches.now) }
 {
     let id = one_more(run.summary.begun)?;
-    let front = held(alloc, run.lives.as_slice())?;
+    list_held(run.lives.as_slice(), &mut held_before)?;
     Ok(Live {
         name: opening.name,
         id,
@@ -175,7 +185,7 @@ fn new_live<'s>(alloc: Global, run: &StepRun<'s>, opening: Opening<'s>) -> Resul
         passed: false,
         poisoned: false,
         latches: opening.latches,
-        front,
+        held_before,
     })
 }
 
@@ -200,9 +210,7 @@ fn add<'s>(run: &mut StepRun<'s>, live: Live<'s>) -> Result<(), Memory>
     let id = live.id;
     let global = has_write(live.latches, Scope::Global);
     let local = has_write(live.latches, Scope::Local);
-    if run.lives.push(live).is_err() {
-        return Err(Memory);
-    }
+    run.lives.push(live)?;
     run.entries = one_more(run.entries)?;
     run.summary.begun = one_more(run.summary.begun)?;
     run.global_writer = if global { id } else { run.global_writer };
@@ -277,7 +285,7 @@ fn find_blocker<'s>(lives: &[Live<'s>], i: usize) -> Option<Held<'s>>
     ensures { (n : Kept) → slice_get (map seen_live lives.now) i ≡ Some n → option_map seen_held result ≡ blocker n (map seen_live lives.now) }
 {
     let live = &lives[i];
-    meet(live.front.as_slice(), lives, true, live.latches)
+    meet(live.held_before.as_slice(), lives, true, live.latches)
 }
 
 // A check of the request at this place.
@@ -296,7 +304,9 @@ fn release_at(run: &mut StepRun, i: usize, out: &mut Vec<u8>) -> Result<(), Memo
 {
     let live = run.lives.remove(i);
     words_line(live.name, b"ended", out)?;
-    end(run, release_ending(live.stage, live.passed))
+    let ending = release_ending(live.stage, live.passed);
+    run.spare.push(live.held_before)?;
+    end(run, ending)
 }
 
 // A poisoning of the request at this place.

@@ -83,7 +83,7 @@ pub(crate) fn check(
             Ok(None)
         }
         None => {
-            let met = meet(live.front.as_slice(), &[], false, asked);
+            let met = meet(live.held_before.as_slice(), &[], false, asked);
             check_against(live, met, out)
         }
     }

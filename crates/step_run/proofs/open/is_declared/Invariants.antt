@@ -1,5 +1,5 @@
 use Rattle.std.proofs.Common.{◌≡◌, drop}
-use Rattle.step_run.specs.Steps.{is_declared}
+use Rattle.latch_model.specs.Checks.{is_declared}
 use Rattle.step_run.proofs.open.is_declared.Given as goal
 
 abbrev pub invariant-loop-latch : goal.invariant-loop-latch

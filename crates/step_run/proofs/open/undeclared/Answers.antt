@@ -1,6 +1,6 @@
 use Rattle.std.proofs.Common.{◌≡◌, ◌<◌, length, true, not, sym, subst, arith}
 use Rattle.latch_model.specs.declared.latch.Latch.{Latch}
-use Rattle.step_run.specs.Steps.{is_declared}
+use Rattle.latch_model.specs.Checks.{is_declared}
 use Rattle.step_run.proofs.Places.{position_found, position_none}
 use Rattle.step_run.proofs.open.undeclared.Goals as goal
 

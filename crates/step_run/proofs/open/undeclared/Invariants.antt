@@ -1,6 +1,6 @@
 use Rattle.std.proofs.Common.{◌≡◌, ℕ, ◌<◌, false, get_or, not}
 use Rattle.latch_model.specs.declared.latch.Latch.{Latch}
-use Rattle.step_run.specs.Steps.{is_declared}
+use Rattle.latch_model.specs.Checks.{is_declared}
 use Rattle.step_run.proofs.open.undeclared.Given as goal
 
 abbrev pub invariant-loop-i : goal.invariant-loop-i

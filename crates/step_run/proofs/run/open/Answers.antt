@@ -2,7 +2,7 @@ use Rattle.std.proofs.Common.{◌≡◌, ◌++◌, length, map, refl, sym, ap, �
 use Rattle.std.proofs.lemmas.List.{length-map}
 use Rattle.step_run.specs.Running.{new_kept, opened_line, prerequisites}
 use Rattle.step_run.specs.Views.{seen_live, seen_run}
-use Rattle.step_run.proofs.Seeing.{opens}
+use Rattle.step_run.proofs.Seeing.{opening_steps}
 use Rattle.step_run.proofs.run.open.Goals as goal
 
 pub returns : goal.returns
@@ -11,7 +11,7 @@ returns c =
     let o = c.args.opening in
     let live = c.in_ok-live.live in
     let at : c.len-i.result ≡ length run.lives.items = omega (arith, run.lives.ok.0, c.len-i.ensures) in
-    opens c.first_turn.result (seen_run run) (seen_run c.add.new.run) (seen_live live) (new_kept (seen_run run) o.name.now o.mode o.policy o.turns o.latches.now) c.len-i.result o.mode c.first_turn.new.run c.args.out.now.items c.write_opening.new.out.items c.first_turn.new.out.items
+    opening_steps c.first_turn.result (seen_run run) (seen_run c.add.new.run) (seen_live live) (new_kept (seen_run run) o.name.now o.mode o.policy o.turns o.latches.now) c.len-i.result o.mode c.first_turn.new.run c.args.out.now.items c.write_opening.new.out.items c.first_turn.new.out.items
     c.in_ok-live.ensures
     (at ∙ sym (length-map run.lives.items seen_live))
     c.in_ok-add.ensures.run

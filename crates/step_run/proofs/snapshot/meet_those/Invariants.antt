@@ -6,5 +6,5 @@ use Rattle.step_run.proofs.snapshot.meet_those.Given as goal
 
 abbrev pub invariant-loop-ask : goal.invariant-loop-ask
 invariant-loop-ask l =
-    first_met (can_meet l.only_open (map seen_live l.lives)) (map seen_held l.front) (those_of l.scope l.access (drop l.ask-index l.asks))
-    ≡ first_met (can_meet l.only_open (map seen_live l.lives)) (map seen_held l.front) (those_of l.scope l.access l.asks)
+    first_met (can_meet l.only_open (map seen_live l.lives)) (map seen_held l.held) (those_of l.scope l.access (drop l.ask-index l.asks))
+    ≡ first_met (can_meet l.only_open (map seen_live l.lives)) (map seen_held l.held) (those_of l.scope l.access l.asks)

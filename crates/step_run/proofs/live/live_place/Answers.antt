@@ -4,7 +4,7 @@ use Rattle.step_run.specs.Running.{Kept}
 use Rattle.step_run.specs.Views.{seen_live}
 use Rattle.step_run.specs.declared.live.Live.{Live}
 use Rattle.step_run.proofs.Places.{position_found, position_map, position_none}
-use Rattle.step_run.proofs.live.place_of.Goals as goal
+use Rattle.step_run.proofs.live.live_place.Goals as goal
 
 pub returns-then-eq-clause-place : goal.returns-then-eq-clause-place
 returns-then-eq-clause-place c =
