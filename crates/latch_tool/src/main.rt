@@ -1,6 +1,7 @@
 //! The program `latch`: reads a script of requests, runs it and writes what happened.
 #![tactic(auto)]
 
+mod form;
 mod run;
 mod status;
 #[cfg(test)]
