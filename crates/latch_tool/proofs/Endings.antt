@@ -1,5 +1,6 @@
 -- How runs end: what an input that is too long, one that was answered and one that spells a script come to.
-use Rattle.std.proofs.Common.{◌≡◌, ◌≢◌, ℕ, ◌<◌, ◌⊎◌, inl, inr, Bool, cond, IsTrue, List, [], ◌∷◌, length, Option, Some, None, IfSome, Result, Ok, Err, refl, sym, ap, subst, ◌∙◌}
+use Rattle.std.proofs.Common.{◌≡◌, ◌≢◌, ℕ, ◌<◌, ◌⊎◌, inl, inr, Bool, cond, List, length, Option, Some, None, IfSome, Result, Ok, Err}
+use Rattle.std.proofs.Common.{refl, sym, ap, subst, ◌∙◌}
 use Rattle.std.proofs.lemmas.Bool.{lt-ltb}
 use Rattle.std.specs.Io.KnownBytes.{Appends}
 use Rattle.port_io.specs.Devices.{CountsFault, TakesMoreThan}
@@ -9,7 +10,7 @@ use Rattle.script.specs.declared.command.Command.{Command}
 use Rattle.script.proofs.Laws.Scripts.{script_again, script_takes}
 use Rattle.step_run.specs.Steps.{step_output}
 use Rattle.latch_tool.specs.Outcomes.{AnswersStep, Ends, HasScript, IsRead, Reading, WritesAll, WritesSteps, decided, fault_line, step_answer}
-use Rattle.latch_tool.specs.Words.{reads}
+use Rattle.latch_tool.specs.declared.run.TheConstants.{TEXT_LIMIT}
 use Rattle.latch_tool.specs.declared.form.Form.{Form}
 use Rattle.latch_tool.specs.declared.form.Form.TheVariants as form
 use Rattle.latch_tool.specs.declared.status.Status.{Status}
@@ -20,17 +21,17 @@ abbrev Read : Type 0
 Read = Result (List Command) (ℕ × ℕ)
 
 -- an input that is too long has that fault
-decided_long : (input : List ℕ) → 4194304 < length input → decided form.Step input ≡ (Script 0 18, fault_line 0 18)
+decided_long : (input : List ℕ) → TEXT_LIMIT < length input → decided form.Step input ≡ (Script 0 18, fault_line 0 18)
 unfolding script_at
-decided_long input long = ap (λ (b : Bool). step_answer (cond {A = Read} b (Err (0, 18)) (all_at (lines input)))) (lt-ltb 4194304 (length input) long)
+decided_long input long = ap (λ (b : Bool). step_answer (cond {A = Read} b (Err (0, 18)) (all_at (lines input)))) (lt-ltb TEXT_LIMIT (length input) long)
 
 -- a source from which too much was taken has such an input
-long_input : (told now : Option (List ℕ)) → TakesMoreThan 4194304 told now → IfSome told (λ bytes. 4194304 < length bytes)
-    → (input : List ℕ) × IsRead told now input × (4194304 < length input)
+long_input : (told now : Option (List ℕ)) → TakesMoreThan TEXT_LIMIT told now → IfSome told (λ bytes. TEXT_LIMIT < length bytes)
+    → (input : List ℕ) × IsRead told now input × (TEXT_LIMIT < length input)
 long_input None now taken long = (taken.0, tt, taken.1)
 long_input (Some bytes) now taken long = (bytes, (refl, inr taken), long)
 
-pub answers_long : (source : Reading) → TakesMoreThan 4194304 source.left source.left_after → IfSome source.left (λ bytes. 4194304 < length bytes)
+pub answers_long : (source : Reading) → TakesMoreThan TEXT_LIMIT source.left source.left_after → IfSome source.left (λ bytes. TEXT_LIMIT < length bytes)
     → AnswersStep source (Script 0 18) (fault_line 0 18)
 answers_long source taken long =
     let read = long_input source.left source.left_after taken long in (read.0, read.1, decided_long read.0 read.2)
@@ -69,12 +70,14 @@ script_is_not_done : (line cause : ℕ) → Script line cause ≢ Done
 script_is_not_done line cause e = cc
 
 -- `step` is done exactly where a script was read
-done_script : (read : Read) (text : List ℕ) → step_answer read ≡ (Done, text) → (commands : List Command) × (read ≡ Ok commands) × (step_output commands ≡ text)
+done_script : (read : Read) (text : List ℕ) → step_answer read ≡ (Done, text)
+    → (commands : List Command) × (read ≡ Ok commands) × (step_output commands ≡ text)
 done_script (Ok commands) text e = (commands, refl, ap (λ (a : Status × List ℕ). a.1) e)
 done_script (Err (line, cause)) text e = absurd (script_is_not_done line cause (status_of (step_answer (Err (line, cause))) Done text e))
 
 -- what `step` writes in the end is the output of the script that was read
-pub writes_steps : (source : Reading) (before now : Option (List ℕ)) → WritesAll form.Step source Done before now → WritesSteps source before now
+pub writes_steps : (source : Reading) (before now : Option (List ℕ)) → WritesAll form.Step source Done before now
+    → WritesSteps source before now
 writes_steps source before now w =
     let input = w.1.0 in
     let script = done_script (script_at input) w.0 w.1.2 in
@@ -88,7 +91,8 @@ read_script_is (Some told) now input bytes commands e spells read =
     let same : input ≡ bytes = read.0 ∙ ap (λ (o : Option (List ℕ)). elim o [ None ↦ told | Some b ↦ b ]) e in
     ap script_at same ∙ script_again bytes commands spells
 
-script_is_done : (read : Read) (commands : List Command) (status : Status) (text : List ℕ) → read ≡ Ok commands → step_answer read ≡ (status, text) → Done ≡ status
+script_is_done : (read : Read) (commands : List Command) (status : Status) (text : List ℕ) → read ≡ Ok commands
+    → step_answer read ≡ (status, text) → Done ≡ status
 script_is_done read commands status text is e = ap (λ (r : Read). (step_answer r).0) (sym is) ∙ status_of (step_answer read) status text e
 
 -- where `step` has a script and the source does not fail, it is done or memory was refused

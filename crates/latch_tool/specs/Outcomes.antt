@@ -6,6 +6,7 @@ use Rattle.script.specs.Reading.{script_at}
 use Rattle.script.specs.Scripts.{Spells}
 use Rattle.script.specs.declared.command.Command.{Command}
 use Rattle.step_run.specs.Steps.{step_output}
+use Rattle.latch_tool.specs.declared.run.TheConstants.{TEXT_LIMIT}
 use Rattle.latch_tool.specs.Words.{reads, takes_memory}
 use Rattle.latch_tool.specs.declared.form.Form.{Form}
 use Rattle.latch_tool.specs.declared.form.Form.TheVariants as form
@@ -44,7 +45,7 @@ reading left faults before now = record { left = left before; left_after = left 
 -- A script was read from a source that showed these bytes before and after: it is all that the source had, where it tells, and it was
 -- taken to its end, or past the limit.
 abbrev pub IsRead : Option (List ℕ) → Option (List ℕ) → List ℕ → Type 0
-IsRead before now input = IfSome before (λ bytes. (input ≡ bytes) × ((now ≡ Some []) ⊎ TakesMoreThan 4194304 before now))
+IsRead before now input = IfSome before (λ bytes. (input ≡ bytes) × ((now ≡ Some []) ⊎ TakesMoreThan TEXT_LIMIT before now))
 
 -- What the input that was read decides at `step`: this status and this text.
 abbrev pub AnswersStep : Reading → Status → List ℕ → Type 0
@@ -68,7 +69,9 @@ WritesPart form source before now = (status : Status) × (text : List ℕ) × En
 
 -- The step output of the script that the source's bytes spell was written.
 abbrev pub WritesSteps : Reading → Option (List ℕ) → Option (List ℕ) → Type 0
-WritesSteps source before now = (input : List ℕ) × (commands : List Command) × IsRead source.left source.left_after input × Spells input commands × Appends before now (step_output commands)
+WritesSteps source before now =
+    (input : List ℕ) × (commands : List Command) × IsRead source.left source.left_after input × Spells input commands
+    × Appends before now (step_output commands)
 
 -- The source tells its bytes, and they spell a script.
 abbrev pub HasScript : Reading → Type 0

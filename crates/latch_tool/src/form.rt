@@ -1,4 +1,4 @@
-// What the words behind the program's name ask for.
+// The forms of the program's words, and which one a list of words is.
 ghost use Rattle.std.specs.Prelude.{◌≡◌, map};
 ghost use Rattle.std.specs.String.{string_bytes};
 ghost use Rattle.latch_tool.specs.Words.{form_of};

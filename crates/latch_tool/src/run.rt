@@ -22,7 +22,7 @@ use step_run::{RunFault, run_step};
 const USAGE: &[u8] = b"usage: latch step | replay [--json] | make N | help\n";
 
 /// The most bytes of a script.
-const LIMIT: usize = 4_194_304;
+const TEXT_LIMIT: usize = 4_194_304;
 
 /// Runs the program on these words, and answers how it ended.
 ///
@@ -37,12 +37,12 @@ pub fn run<R: Threads + Wait + Sync, S: Source, O: Sink>(
     sink: &mut O,
 ) -> Status
     // The status is one that the words, the input and the source allow, and its text was written whole.
-    ensures written { result ≢ Status.WriteFault → WritesAll (form_of (map string_bytes words.now))
-        (reading S.left S.faults source.old source.new) result (O.written sink.old) (O.written sink.new) }
+    ensures written { result ≢ Status.WriteFault →
+        WritesAll (form_of (map string_bytes words.now)) (reading S.left S.faults source.old source.new) result (O.written sink.old) (O.written sink.new) }
 
     // A sink that failed took a front of such a text.
-    ensures part { result ≡ Status.WriteFault → WritesPart (form_of (map string_bytes words.now))
-        (reading S.left S.faults source.old source.new) (O.written sink.old) (O.written sink.new) }
+    ensures part { result ≡ Status.WriteFault →
+        WritesPart (form_of (map string_bytes words.now)) (reading S.left S.faults source.old source.new) (O.written sink.old) (O.written sink.new) }
 
     // The sink failed.
     ensures write_fault { result ≡ Status.WriteFault → CountsFault (O.faults sink.old) (O.faults sink.new) }
@@ -71,10 +71,10 @@ pub fn run_still<S: Source, O: Sink>(
     source: &mut S,
     sink: &mut O,
 ) -> Status
-    ensures written { result ≢ Status.WriteFault → WritesAll (form_of (map string_bytes words.now))
-        (reading S.left S.faults source.old source.new) result (O.written sink.old) (O.written sink.new) }
-    ensures part { result ≡ Status.WriteFault → WritesPart (form_of (map string_bytes words.now))
-        (reading S.left S.faults source.old source.new) (O.written sink.old) (O.written sink.new) }
+    ensures written { result ≢ Status.WriteFault →
+        WritesAll (form_of (map string_bytes words.now)) (reading S.left S.faults source.old source.new) result (O.written sink.old) (O.written sink.new) }
+    ensures part { result ≡ Status.WriteFault →
+        WritesPart (form_of (map string_bytes words.now)) (reading S.left S.faults source.old source.new) (O.written sink.old) (O.written sink.new) }
     ensures write_fault { result ≡ Status.WriteFault → CountsFault (O.faults sink.old) (O.faults sink.new) }
     ensures untouched { reads (form_of (map string_bytes words.now)) ≡ false → source.new ≡ source.old }
     ensures steps { form_of (map string_bytes words.now) ≡ Form.Step → result ≡ Status.Done →
@@ -124,8 +124,10 @@ impl From<RunFault> for Stop {
 
 // Reads a script, runs it step by step and writes its output.
 fn step<S: Source, O: Sink>(alloc: Global, source: &mut S, sink: &mut O) -> Status
-    ensures written { result ≢ Status.WriteFault → WritesAll Form.Step (reading S.left S.faults source.old source.new) result (O.written sink.old) (O.written sink.new) }
-    ensures part { result ≡ Status.WriteFault → WritesPart Form.Step (reading S.left S.faults source.old source.new) (O.written sink.old) (O.written sink.new) }
+    ensures written { result ≢ Status.WriteFault →
+        WritesAll Form.Step (reading S.left S.faults source.old source.new) result (O.written sink.old) (O.written sink.new) }
+    ensures part { result ≡ Status.WriteFault →
+        WritesPart Form.Step (reading S.left S.faults source.old source.new) (O.written sink.old) (O.written sink.new) }
     ensures write_fault { result ≡ Status.WriteFault → CountsFault (O.faults sink.old) (O.faults sink.new) }
 {
     match read_and_answer(alloc, source) {
@@ -140,7 +142,7 @@ fn read_and_answer<S: Source>(alloc: Global, source: &mut S) -> Result<Answer, S
     ensures answered { IfOk result (λ a. AnswersStep (reading S.left S.faults source.old source.new) a.status a.text.items) }
     ensures read_fault { IsErrOf result Stop.ReadFault → CountsFault (S.faults source.old) (S.faults source.new) }
 {
-    match read_all(alloc, source, LIMIT) {
+    match read_all(alloc, source, TEXT_LIMIT) {
         Ok(input) => answer_to(alloc, input.as_slice()),
         Err(ReadFault::TooLong) => Ok(fault_answer(alloc, 0, 18)?),
         Err(ReadFault::Failed) => Err(Stop::ReadFault),
