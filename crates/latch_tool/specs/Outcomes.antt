@@ -1,5 +1,5 @@
 -- How a run ends and what it writes: what its words and its input decide, and what becomes of that by what the devices show.
-use Rattle.std.specs.Prelude.{◌≡◌, ℕ, ◌++◌, ◌⊎◌, IsTrue, List, [], ◌∷◌, Option, Some, None, IfSome, Result, Ok, Err, codes, decimal}
+use Rattle.std.specs.Prelude.{◌≡◌, ℕ, ◌++◌, ◌⊎◌, IsTrue, List, [], ◌∷◌, Option, Some, IfSome, Result, Ok, Err, codes, decimal}
 use Rattle.std.specs.Io.KnownBytes.{Appends}
 use Rattle.port_io.specs.Devices.{AppendsPart, CountsFault, TakesMoreThan}
 use Rattle.script.specs.Reading.{script_at}

@@ -1,8 +1,5 @@
-use Rattle.std.proofs.Common.{Err, ap, subst, sym}
-use Rattle.port_io.specs.declared.transfers.ReadFault.{ReadFault}
-use Rattle.port_io.specs.declared.transfers.ReadFault.TheVariants.{TooLong}
-use Rattle.latch_tool.specs.Outcomes.{AnswersStep, reading}
-use Rattle.latch_tool.specs.declared.status.Status.{Status}
+use Rattle.std.proofs.Common.{Err, ap}
+use Rattle.latch_tool.specs.Outcomes.{reading}
 use Rattle.latch_tool.proofs.Endings.{answers_long}
 use Rattle.latch_tool.proofs.run.read_and_answer.Goals as goal
 

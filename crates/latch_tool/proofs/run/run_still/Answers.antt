@@ -1,6 +1,6 @@
-use Rattle.std.proofs.Common.{◌≡◌, ◌≢◌, ◌∙◌, ap, subst, sym, refl}
+use Rattle.std.proofs.Common.{◌≡◌, ◌≢◌, ◌∙◌, ap, subst, sym}
 use Rattle.latch_tool.specs.Outcomes.{WritesAll, reading}
-use Rattle.latch_tool.specs.Words.{form_of, reads}
+use Rattle.latch_tool.specs.Words.{reads}
 use Rattle.latch_tool.proofs.Endings.{step_done, writes_steps}
 use Rattle.latch_tool.specs.declared.form.Form.TheVariants as form
 use Rattle.latch_tool.specs.declared.status.Status.{Status}
