@@ -1,12 +1,20 @@
--- The words behind the program's name, and which lists of them are a form.
-use Rattle.std.specs.Prelude.{◌≡◌, ℕ, List, [], ◌∷◌, map, codes}
-use Rattle.std.specs.declared.string.String.{String}
-use Rattle.std.specs.String.{string_bytes}
+-- The words behind the program's name, and what they ask for.
+use Rattle.std.specs.Prelude.{ℕ, Bool, true, false, if◌then◌else◌, List, [], ◌∷◌, bytes_eq, codes}
+use Rattle.latch_tool.specs.declared.form.Form.{Form}
+use Rattle.latch_tool.specs.declared.form.Form.TheVariants.{Step, Usage}
 
--- the usage line
-abbrev pub usage_line : List ℕ
-usage_line = codes "usage: latch step | replay [--json] | make N | help\n"
+-- What a list of words asks for. Each form is one spelling, and every other list of words asks for the usage line.
+abbrev pub form_of : List (List ℕ) → Form
+form_of [] = Usage
+form_of (word ∷ []) = if bytes_eq word (codes "step") then Step else Usage
+form_of (word ∷ next ∷ more) = Usage
 
--- the words are exactly `step`
-abbrev pub IsStep : List (List ℕ) → Type 0
-IsStep words = words ≡ codes "step" ∷ []
+-- whether a form reads a script
+abbrev pub reads : Form → Bool
+reads Step = true
+reads Usage = false
+
+-- whether a form takes memory
+abbrev pub takes_memory : Form → Bool
+takes_memory Step = true
+takes_memory Usage = false

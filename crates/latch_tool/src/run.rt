@@ -1,14 +1,16 @@
 // The top call: words and an input in, a status and what was written out.
-ghost use Rattle.std.specs.Prelude.{◌≡◌, ◌≢◌, ◌↔◌, ◌++◌, ◌⊎◌, IsTrue, IfOk, IfErr, IsErrOf, OnOk, OnErr, Some, map, length, codes};
+ghost use Rattle.std.specs.Prelude.{◌≡◌, ◌≢◌, ◌⊎◌, IsTrue, IfOk, IfErr, IsErrOf, false, map};
 ghost use Rattle.std.specs.String.{string_bytes};
 ghost use Rattle.std.specs.Io.KnownBytes.{Appends};
 ghost use Rattle.port_io.specs.Devices.{AppendsPart, CountsFault};
-ghost use Rattle.latch_tool.specs.Outcomes.{Answers, AnswersSource, Decides, WritesAll, WritesPart, fault_line};
-ghost use Rattle.latch_tool.specs.Words.{IsStep, usage_line};
+ghost use Rattle.latch_tool.specs.Outcomes.{AnswersStep, HasScript, WritesAll, WritesPart, WritesSteps, decided, fault_line, reading};
+ghost use Rattle.latch_tool.specs.Words.{form_of, reads};
+ghost use Rattle.latch_tool.specs.declared.run.Stop.TheVariants.{Memory as memory};
 
+use crate::form::{Form, form_of};
 use crate::status::Status;
 use itoa::Buffer;
-use port_io::{ReadFault, Sink, Source, read_all, write_piece};
+use port_io::{Failed, ReadFault, Sink, Source, read_all, write_piece};
 use script::fault::ReadScript;
 use script::read_script;
 use std::alloc::{AllocError, Global};
@@ -20,29 +22,43 @@ use step_run::{RunFault, run_step};
 const USAGE: &[u8] = b"usage: latch step | replay [--json] | make N | help\n";
 
 /// The most bytes of a script.
-const LIMIT: usize = 4_194_304;
+const TEXT_LIMIT: usize = 4_194_304;
 
 /// Runs the program on these words, and answers how it ended.
 ///
 /// The words are those behind the program's name. `step` reads a script from `source`, runs it step by step and writes its output to
 /// `sink`; every other list of words writes the usage line. The lines of faults go to the sink as well. The output is built whole and
 /// then written.
-pub fn run<R: Threads + Wait, S: Source, O: Sink>(
+pub fn run<R: Threads + Wait + Sync, S: Source, O: Sink>(
     rt: &R,
     alloc: Global,
     words: &[String],
     source: &mut S,
     sink: &mut O,
 ) -> Status
-    // What the status says is written, whole.
-    ensures written { result ≢ Status.WriteFault → WritesAll (map string_bytes words.now) (S.left source.old) result (O.written sink.old) (O.written sink.new) }
+    // The status is one that the words, the input and the source allow, and its text was written whole.
+    ensures written { result ≢ Status.WriteFault →
+        WritesAll (form_of (map string_bytes words.now)) (reading S.left S.faults source.old source.new) result (O.written sink.old) (O.written sink.new) }
 
-    // A sink that failed took a front of it.
-    ensures part { result ≡ Status.WriteFault → WritesPart (map string_bytes words.now) (S.left source.old) (O.written sink.old) (O.written sink.new) }
+    // A sink that failed took a front of such a text.
+    ensures part { result ≡ Status.WriteFault →
+        WritesPart (form_of (map string_bytes words.now)) (reading S.left S.faults source.old source.new) (O.written sink.old) (O.written sink.new) }
 
-    // Faults of the devices come from the devices.
-    ensures read_fault { result ≡ Status.ReadFault → CountsFault (S.faults source.old) (S.faults source.new) }
+    // The sink failed.
     ensures write_fault { result ≡ Status.WriteFault → CountsFault (O.faults sink.old) (O.faults sink.new) }
+
+    // A form that reads nothing leaves the source as it is.
+    ensures untouched { reads (form_of (map string_bytes words.now)) ≡ false → source.new ≡ source.old }
+
+    // What `step` writes in the end is the step output of the script that was read.
+    ensures steps { form_of (map string_bytes words.now) ≡ Form.Step → result ≡ Status.Done →
+        WritesSteps (reading S.left S.faults source.old source.new) (O.written sink.old) (O.written sink.new) }
+
+    // Words that are a form, and a script where the form reads one: unless a device fails, the run is done or memory was refused.
+    ensures complete { form_of (map string_bytes words.now) ≢ Form.Usage →
+        (IsTrue (reads (form_of (map string_bytes words.now))) → HasScript (reading S.left S.faults source.old source.new)) →
+        ¬ CountsFault (S.faults source.old) (S.faults source.new) → ¬ CountsFault (O.faults sink.old) (O.faults sink.new) →
+        (result ≡ Status.Done) ⊎ (result ≡ Status.Memory) }
 {
     let _ = rt;
     run_still(alloc, words, source, sink)
@@ -55,18 +71,22 @@ pub fn run_still<S: Source, O: Sink>(
     source: &mut S,
     sink: &mut O,
 ) -> Status
-    ensures written { result ≢ Status.WriteFault → WritesAll (map string_bytes words.now) (S.left source.old) result (O.written sink.old) (O.written sink.new) }
-    ensures part { result ≡ Status.WriteFault → WritesPart (map string_bytes words.now) (S.left source.old) (O.written sink.old) (O.written sink.new) }
-    ensures read_fault { result ≡ Status.ReadFault → CountsFault (S.faults source.old) (S.faults source.new) }
+    ensures written { result ≢ Status.WriteFault →
+        WritesAll (form_of (map string_bytes words.now)) (reading S.left S.faults source.old source.new) result (O.written sink.old) (O.written sink.new) }
+    ensures part { result ≡ Status.WriteFault →
+        WritesPart (form_of (map string_bytes words.now)) (reading S.left S.faults source.old source.new) (O.written sink.old) (O.written sink.new) }
     ensures write_fault { result ≡ Status.WriteFault → CountsFault (O.faults sink.old) (O.faults sink.new) }
+    ensures untouched { reads (form_of (map string_bytes words.now)) ≡ false → source.new ≡ source.old }
+    ensures steps { form_of (map string_bytes words.now) ≡ Form.Step → result ≡ Status.Done →
+        WritesSteps (reading S.left S.faults source.old source.new) (O.written sink.old) (O.written sink.new) }
+    ensures complete { form_of (map string_bytes words.now) ≢ Form.Usage →
+        (IsTrue (reads (form_of (map string_bytes words.now))) → HasScript (reading S.left S.faults source.old source.new)) →
+        ¬ CountsFault (S.faults source.old) (S.faults source.new) → ¬ CountsFault (O.faults sink.old) (O.faults sink.new) →
+        (result ≡ Status.Done) ⊎ (result ≡ Status.Memory) }
 {
-    if !is_step(words) {
-        return tell(sink, Status::Usage, USAGE);
-    }
-    match read_and_run(alloc, source) {
-        Ok(answer) => tell(sink, answer.status, answer.text.as_slice()),
-        Err(Stop::ReadFault) => tell(sink, Status::ReadFault, b"read fault\n"),
-        Err(Stop::Memory) => tell(sink, Status::Memory, b"out of memory\n"),
+    match form_of(words) {
+        Form::Step => step(alloc, source, sink),
+        Form::Usage => tell(sink, Status::Usage, USAGE),
     }
 }
 
@@ -77,81 +97,82 @@ struct Answer {
     text: Vec<u8>,
 }
 
-/// Why an input decides nothing.
+/// Why an input was not answered.
 #[derive(Clone, Copy, Debug, PartialEq, Eq)]
 enum Stop {
     ReadFault,
     Memory,
 }
 
-// Whether the words are exactly `step`.
-fn is_step(words: &[String]) -> bool
-    ensures { IsTrue result ↔ IsStep (map string_bytes words.now) }
-{
-    match words {
-        [word] => is_word(word),
-        _ => false,
+impl From<AllocError> for Stop {
+    ghost from_gives = { λ _ stop. stop ≡ memory };
+
+    fn from(_refused: AllocError) -> Stop {
+        Stop::Memory
     }
 }
 
-// Whether a word is `step`.
-fn is_word(word: &String) -> bool
-    ensures { IsTrue result ↔ (string_bytes word.now ≡ codes "step") }
-{
-    word.as_str() == "step"
+impl From<RunFault> for Stop {
+    ghost from_gives = { λ _ stop. stop ≡ memory };
+
+    fn from(fault: RunFault) -> Stop {
+        match fault {
+            RunFault::Memory => Stop::Memory,
+        }
+    }
 }
 
-// Reads the input and runs it.
-fn read_and_run<S: Source>(alloc: Global, source: &mut S) -> Result<Answer, Stop>
-    ensures answered { IfOk result (λ a. AnswersSource (S.left source.old) a.status a.text.items) }
+// Reads a script, runs it step by step and writes its output.
+fn step<S: Source, O: Sink>(alloc: Global, source: &mut S, sink: &mut O) -> Status
+    ensures written { result ≢ Status.WriteFault →
+        WritesAll Form.Step (reading S.left S.faults source.old source.new) result (O.written sink.old) (O.written sink.new) }
+    ensures part { result ≡ Status.WriteFault →
+        WritesPart Form.Step (reading S.left S.faults source.old source.new) (O.written sink.old) (O.written sink.new) }
+    ensures write_fault { result ≡ Status.WriteFault → CountsFault (O.faults sink.old) (O.faults sink.new) }
+{
+    match read_and_answer(alloc, source) {
+        Ok(answer) => tell(sink, answer.status, answer.text.as_slice()),
+        Err(Stop::ReadFault) => tell(sink, Status::ReadFault, b"read fault\n"),
+        Err(Stop::Memory) => tell(sink, Status::Memory, b"out of memory\n"),
+    }
+}
+
+// Reads the input and answers it.
+fn read_and_answer<S: Source>(alloc: Global, source: &mut S) -> Result<Answer, Stop>
+    ensures answered { IfOk result (λ a. AnswersStep (reading S.left S.faults source.old source.new) a.status a.text.items) }
     ensures read_fault { IsErrOf result Stop.ReadFault → CountsFault (S.faults source.old) (S.faults source.new) }
 {
-    match read_all(alloc, source, LIMIT) {
-        Ok(input) => answer_of(alloc, input.as_slice()),
-        Err(ReadFault::TooLong) => too_long(alloc),
+    match read_all(alloc, source, TEXT_LIMIT) {
+        Ok(input) => answer_to(alloc, input.as_slice()),
+        Err(ReadFault::TooLong) => Ok(fault_answer(alloc, 0, 18)?),
         Err(ReadFault::Failed) => Err(Stop::ReadFault),
         Err(ReadFault::Memory) => Err(Stop::Memory),
     }
 }
 
 // What an input decides that is no longer than a script may be.
-fn answer_of(alloc: Global, input: &[u8]) -> Result<Answer, Stop>
-    ensures answered { IfOk result (λ a. Answers input.now a.status a.text.items) }
-    ensures memory { IfErr result (λ e. e ≡ Stop.Memory) }
+fn answer_to(alloc: Global, input: &[u8]) -> Result<Answer, Stop>
+    ensures answered { IfOk result (λ a. decided Form.Step input.now ≡ (a.status, a.text.items)) }
+    ensures memory { IfErr result (λ stop. stop ≡ Stop.Memory) }
 {
     match read_script(alloc, input) {
-        Ok(script) => match run_step(alloc, &script) {
-            Ok(text) => Ok(Answer {
-                status: Status::Done,
-                text,
-            }),
-            Err(RunFault::Memory) => Err(Stop::Memory),
-        },
-        Err(ReadScript::Bad(fault)) => fault_answer(alloc, fault.line, fault.cause),
+        Ok(script) => Ok(Answer {
+            status: Status::Done,
+            text: run_step(alloc, &script)?,
+        }),
+        Err(ReadScript::Bad(fault)) => Ok(fault_answer(alloc, fault.line, fault.cause)?),
         Err(ReadScript::Memory) => Err(Stop::Memory),
     }
 }
 
-// What an input decides that is longer than a script may be.
-fn too_long(alloc: Global) -> Result<Answer, Stop>
-    ensures answered { IfOk result (λ a. (a.status ≡ Status.Script 0 18) × (a.text.items ≡ fault_line 0 18)) }
-    ensures memory { IfErr result (λ e. e ≡ Stop.Memory) }
+// The answer that names a fault of the input.
+fn fault_answer(alloc: Global, line: u32, cause: u32) -> Result<Answer, AllocError>
+    ensures { IfOk result (λ a. (a.status ≡ Status.Script line cause) × (a.text.items ≡ fault_line line cause)) }
 {
-    fault_answer(alloc, 0, 18)
-}
-
-// The answer that names a fault.
-fn fault_answer(alloc: Global, line: u32, cause: u32) -> Result<Answer, Stop>
-    ensures answered { IfOk result (λ a. (a.status ≡ Status.Script line cause) × (a.text.items ≡ fault_line line cause)) }
-    ensures memory { IfErr result (λ e. e ≡ Stop.Memory) }
-{
-    match fault_text(alloc, line, cause) {
-        Ok(text) => Ok(Answer {
-            status: Status::Script { line, cause },
-            text,
-        }),
-        Err(_) => Err(Stop::Memory),
-    }
+    Ok(Answer {
+        status: Status::Script { line, cause },
+        text: fault_text(alloc, line, cause)?,
+    })
 }
 
 fn fault_text(alloc: Global, line: u32, cause: u32) -> Result<Vec<u8>, AllocError>
@@ -167,12 +188,13 @@ fn fault_text(alloc: Global, line: u32, cause: u32) -> Result<Vec<u8>, AllocErro
 
 // Writes the text of a status, and answers that status, or that the sink failed.
 fn tell<O: Sink>(sink: &mut O, status: Status, text: &[u8]) -> Status
+    requires { status ≢ Status.WriteFault }
     ensures whole { result ≢ Status.WriteFault → (result ≡ status) × Appends (O.written sink.old) (O.written sink.new) text.now }
-    ensures part { result ≡ Status.WriteFault → status ≢ Status.WriteFault → AppendsPart (O.written sink.old) (O.written sink.new) text.now }
-    ensures counted { result ≡ Status.WriteFault → status ≢ Status.WriteFault → CountsFault (O.faults sink.old) (O.faults sink.new) }
+    ensures part { result ≡ Status.WriteFault → AppendsPart (O.written sink.old) (O.written sink.new) text.now }
+    ensures write_fault { result ≡ Status.WriteFault → CountsFault (O.faults sink.old) (O.faults sink.new) }
 {
     match write_piece(sink, text) {
         Ok(()) => status,
-        Err(_) => Status::WriteFault,
+        Err(Failed) => Status::WriteFault,
     }
 }

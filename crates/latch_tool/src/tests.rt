@@ -14,22 +14,34 @@ struct Outcome {
     written: Vec<u8>,
 }
 
-// Runs the program on a word and an input. The source gives 7 bytes a read and the sink takes 5 a write; the calls with these numbers
-// fail.
+// Runs the program on these words, with a source that gives 7 bytes a read and a sink that takes 5 a write. The calls of these with
+// the listed numbers fail.
 fn ran(
     alloc: Global,
-    word: &str,
+    words: &[&str],
     input: &[u8],
     reads: &[u64],
     writes: &[u64],
 ) -> Result<Outcome, AllocError> {
-    let mut words = Vec::new(alloc);
-    words.push(word.to_string(alloc)?)?;
     let bytes = Vec::from_slice(alloc, input)?;
-    let mut source = MemSource::new(bytes, 7, Vec::from_slice(alloc, reads)?);
+    let source = MemSource::new(bytes, 7, Vec::from_slice(alloc, reads)?);
+    ran_on(alloc, words, source, writes)
+}
+
+fn ran_on(
+    alloc: Global,
+    words: &[&str],
+    source: MemSource,
+    writes: &[u64],
+) -> Result<Outcome, AllocError> {
+    let mut texts = Vec::new(alloc);
+    for word in words {
+        texts.push(word.to_string(alloc)?)?;
+    }
+    let mut source = source;
     let room = Vec::with_capacity(alloc, 4096)?;
     let mut sink = MemSink::new(room, 5, Vec::from_slice(alloc, writes)?);
-    let status = run_still(alloc, words.as_slice(), &mut source, &mut sink);
+    let status = run_still(alloc, texts.as_slice(), &mut source, &mut sink);
     let written = Vec::from_slice(alloc, sink.written())?;
     Ok(Outcome { status, written })
 }
@@ -39,7 +51,7 @@ fn writes(rt: &impl Abort, alloc: Global, commands: &str, lines: &str) -> Result
     let mut input = Vec::from_slice(alloc, b"latch script 1\n")?;
     input.extend_from_slice(commands.as_bytes())?;
     input.extend_from_slice(b"end\n")?;
-    let ran = ran(alloc, "step", input.as_slice(), &[], &[])?;
+    let ran = ran(alloc, &["step"], input.as_slice(), &[], &[])?;
     assert!(rt; ran.status == Status::Done, "{commands}");
     assert!(rt; ran.written.as_slice() == lines.as_bytes(), "{commands}");
     Ok(())
@@ -53,7 +65,7 @@ fn refuses(
     line: u32,
     cause: u32,
 ) -> Result<(), AllocError> {
-    let ran = ran(alloc, "step", input, &[], &[])?;
+    let ran = ran(alloc, &["step"], input, &[], &[])?;
     assert!(rt; ran.status == Status::Script { line, cause });
     let text = format!(in alloc; "script {line} {cause}\n")?;
     assert!(rt; ran.written.as_slice() == text.as_bytes());
@@ -70,7 +82,7 @@ fn fails(
     written: &[u8],
 ) -> Result<(), AllocError> {
     let input = b"latch script 1\nacquire 1 a wait w:61\nrelease a\nend\n";
-    let ran = ran(alloc, "step", input, reads, writes)?;
+    let ran = ran(alloc, &["step"], input, reads, writes)?;
     assert!(rt; ran.status == status);
     assert!(rt; ran.written.as_slice() == written);
     Ok(())
@@ -105,7 +117,8 @@ fn latches_are_waited_for_in_order(rt: HostRuntime) -> Result<(), Fail> {
         &rt,
         alloc,
         "acquire 1 a wait w:61\nacquire 2 b wait w:6100\nacquire 3 c wait w:61-6101\nrelease a\nwait c\nrelease b\nwait c\nrelease c\n",
-        "a 1 before -\na granted 1\nb 2 before -\nb granted 2\nc 3 before 1,2\nc blocked 1 61@0.0\na ended\nc blocked 2 6100@0.0\nb ended\nc granted 5\nc ended\nrequests 3 granted 3 checked 0 poisoned 0 cancelled 0 never 0\n",
+        "a 1 before -\na granted 1\nb 2 before -\nb granted 2\nc 3 before 1,2\nc blocked 1 61@0.0\na ended\n\
+         c blocked 2 6100@0.0\nb ended\nc granted 5\nc ended\nrequests 3 granted 3 checked 0 poisoned 0 cancelled 0 never 0\n",
     )?;
     // own latches do not conflict
     writes(
@@ -124,29 +137,41 @@ fn stamps_and_scopes_decide_conflicts(rt: HostRuntime) -> Result<(), Fail> {
     writes(
         &rt,
         alloc,
-        "acquire 1 a wait w:61@10\nacquire 2 b wait r:61@9\nacquire 3 c wait r:61@10\nacquire 4 d wait r:61@11\nrelease a\nwait c\nwait d\nrelease b\nrelease c\nrelease d\n",
-        "a 1 before -\na granted 1\nb 2 before -\nb granted 2\nc 3 before 1\nc blocked 1 61@10.0\nd 4 before 1\nd blocked 1 61@10.0\na ended\nc granted 5\nd granted 5\nb ended\nc ended\nd ended\nrequests 4 granted 4 checked 0 poisoned 0 cancelled 0 never 0\n",
+        "acquire 1 a wait w:61@10\nacquire 2 b wait r:61@9\nacquire 3 c wait r:61@10\nacquire 4 d wait r:61@11\nrelease a\n\
+         wait c\nwait d\nrelease b\nrelease c\nrelease d\n",
+        "a 1 before -\na granted 1\nb 2 before -\nb granted 2\nc 3 before 1\nc blocked 1 61@10.0\nd 4 before 1\n\
+         d blocked 1 61@10.0\na ended\nc granted 5\nd granted 5\nb ended\nc ended\nd ended\n\
+         requests 4 granted 4 checked 0 poisoned 0 cancelled 0 never 0\n",
     )?;
     // an empty stamp stands for every time
     writes(
         &rt,
         alloc,
-        "acquire 1 a wait w:61\nacquire 2 b wait r:61@1\nacquire 3 c wait r:62\nacquire 4 d wait w:62@9\nrelease a\nrelease b\nrelease c\nrelease d\n",
-        "a 1 before -\na granted 1\nb 2 before 1\nb blocked 1 61@0.0\nc 3 before -\nc granted 3\nd 4 before 3\nd blocked 3 62@0.0\na ended\nb ended\nc ended\nd ended\nrequests 4 granted 2 checked 0 poisoned 0 cancelled 0 never 2\n",
+        "acquire 1 a wait w:61\nacquire 2 b wait r:61@1\nacquire 3 c wait r:62\nacquire 4 d wait w:62@9\nrelease a\n\
+         release b\nrelease c\nrelease d\n",
+        "a 1 before -\na granted 1\nb 2 before 1\nb blocked 1 61@0.0\nc 3 before -\nc granted 3\nd 4 before 3\n\
+         d blocked 3 62@0.0\na ended\nb ended\nc ended\nd ended\n\
+         requests 4 granted 2 checked 0 poisoned 0 cancelled 0 never 2\n",
     )?;
     // local latches have no stamp
     writes(
         &rt,
         alloc,
         "acquire 1 a wait r:01ff@10\nacquire 2 b wait w:01ff@11\nrelease a\nwait b\nrelease b\n",
-        "a 1 before -\na granted 1\nb 2 before 1\nb blocked 1 01ff@0.0\na ended\nb granted 3\nb ended\nrequests 2 granted 2 checked 0 poisoned 0 cancelled 0 never 0\n",
+        "a 1 before -\na granted 1\nb 2 before 1\nb blocked 1 01ff@0.0\na ended\nb granted 3\nb ended\n\
+         requests 2 granted 2 checked 0 poisoned 0 cancelled 0 never 0\n",
     )?;
     // a put, a scan, a get and a split
     writes(
         &rt,
         alloc,
-        "acquire 1 put error r:016b7a w:7a31@100\nacquire 2 scan error r:7a30-7a39@99\nacquire 3 get error r:7a31@120\nacquire 4 split error w:016b7a w:7a00-7aff\nrelease put\nwait get\nwait split\nrelease scan\nwait split\nrelease get\nwait split\nrelease split\n",
-        "put 1 before -\nput granted 1\nscan 2 before -\nscan granted 2\nget 3 before 1\nget blocked 1 7a31@100.0\nsplit 4 before 1,2,3\nsplit blocked 1 7a31@100.0\nput ended\nget granted 5\nsplit blocked 2 7a30-7a39@99.0\nscan ended\nsplit blocked 3 7a31@120.0\nget ended\nsplit granted 7\nsplit ended\nrequests 4 granted 4 checked 0 poisoned 0 cancelled 0 never 0\n",
+        "acquire 1 put error r:016b7a w:7a31@100\nacquire 2 scan error r:7a30-7a39@99\nacquire 3 get error r:7a31@120\n\
+         acquire 4 split error w:016b7a w:7a00-7aff\nrelease put\nwait get\nwait split\nrelease scan\nwait split\n\
+         release get\nwait split\nrelease split\n",
+        "put 1 before -\nput granted 1\nscan 2 before -\nscan granted 2\nget 3 before 1\nget blocked 1 7a31@100.0\n\
+         split 4 before 1,2,3\nsplit blocked 1 7a31@100.0\nput ended\nget granted 5\nsplit blocked 2 7a30-7a39@99.0\n\
+         scan ended\nsplit blocked 3 7a31@120.0\nget ended\nsplit granted 7\nsplit ended\n\
+         requests 4 granted 4 checked 0 poisoned 0 cancelled 0 never 0\n",
     )?;
     Ok(())
 }
@@ -159,28 +184,34 @@ fn poison_ends_or_spreads(rt: HostRuntime) -> Result<(), Fail> {
         &rt,
         alloc,
         "acquire 1 a wait w:61@10\npoison a\nacquire 2 b error w:61@12\nwait b\nrelease b\nrelease a\n",
-        "a 1 before -\na granted 1\na poisons\nb 2 before 1\nb poisoned 1 61@10.0\nb ended\na ended\nrequests 2 granted 1 checked 0 poisoned 1 cancelled 0 never 0\n",
+        "a 1 before -\na granted 1\na poisons\nb 2 before 1\nb poisoned 1 61@10.0\nb ended\na ended\n\
+         requests 2 granted 1 checked 0 poisoned 1 cancelled 0 never 0\n",
     )?;
     // poison spreads under the policy to wait
     writes(
         &rt,
         alloc,
-        "acquire 1 a wait w:61\npoison a\nacquire 2 b wait w:61-63\nacquire 3 c wait w:62-65\nacquire 4 d error w:64\nrelease a\nwait b\nrelease b\nwait c\nrelease c\nrelease d\n",
-        "a 1 before -\na granted 1\na poisons\nb 2 before 1\nb spreads 1\nb blocked 1 61@0.0\nc 3 before 2\nc spreads 2\nc blocked 2 61-63@0.0\nd 4 before 3\nd poisoned 3 62-65@0.0\na ended\nb granted 6\nb ended\nc granted 7\nc ended\nd ended\nrequests 4 granted 3 checked 0 poisoned 1 cancelled 0 never 0\n",
+        "acquire 1 a wait w:61\npoison a\nacquire 2 b wait w:61-63\nacquire 3 c wait w:62-65\nacquire 4 d error w:64\n\
+         release a\nwait b\nrelease b\nwait c\nrelease c\nrelease d\n",
+        "a 1 before -\na granted 1\na poisons\nb 2 before 1\nb spreads 1\nb blocked 1 61@0.0\nc 3 before 2\nc spreads 2\n\
+         c blocked 2 61-63@0.0\nd 4 before 3\nd poisoned 3 62-65@0.0\na ended\nb granted 6\nb ended\nc granted 7\nc ended\n\
+         d ended\nrequests 4 granted 3 checked 0 poisoned 1 cancelled 0 never 0\n",
     )?;
     // an ended request poisons nobody
     writes(
         &rt,
         alloc,
         "acquire 1 a wait w:61\nacquire 2 b error w:61\npoison a\nrelease a\nwait b\nrelease b\n",
-        "a 1 before -\na granted 1\nb 2 before 1\nb blocked 1 61@0.0\na poisons\na ended\nb granted 3\nb ended\nrequests 2 granted 2 checked 0 poisoned 0 cancelled 0 never 0\n",
+        "a 1 before -\na granted 1\nb 2 before 1\nb blocked 1 61@0.0\na poisons\na ended\nb granted 3\nb ended\n\
+         requests 2 granted 2 checked 0 poisoned 0 cancelled 0 never 0\n",
     )?;
     // turns run out
     writes(
         &rt,
         alloc,
         "acquire 1 a wait w:61\nacquire 2 b wait turns=2 w:61\nwait b\nrelease b\nrelease a\n",
-        "a 1 before -\na granted 1\nb 2 before 1\nb blocked 1 61@0.0\nb blocked 1 61@0.0\nb cancelled\nb ended\na ended\nrequests 2 granted 1 checked 0 poisoned 0 cancelled 1 never 0\n",
+        "a 1 before -\na granted 1\nb 2 before 1\nb blocked 1 61@0.0\nb blocked 1 61@0.0\nb cancelled\nb ended\na ended\n\
+         requests 2 granted 1 checked 0 poisoned 0 cancelled 1 never 0\n",
     )?;
     Ok(())
 }
@@ -214,21 +245,27 @@ fn checks_looks_and_metrics(rt: HostRuntime) -> Result<(), Fail> {
         &rt,
         alloc,
         "acquire 1 a wait r:61\nlook 2 b wait w:61\nacquire 3 c wait r:61\nrelease a\nwait b\nrelease b\nrelease c\n",
-        "a 1 before -\na granted 1\nb 2 before 1\nb blocked 1 61@0.0\nc 3 before -\nc granted 3\na ended\nb granted 4\nb ended\nc ended\nrequests 3 granted 3 checked 0 poisoned 0 cancelled 0 never 0\n",
+        "a 1 before -\na granted 1\nb 2 before 1\nb blocked 1 61@0.0\nc 3 before -\nc granted 3\na ended\nb granted 4\n\
+         b ended\nc ended\nrequests 3 granted 3 checked 0 poisoned 0 cancelled 0 never 0\n",
     )?;
     // pending reads
     writes(
         &rt,
         alloc,
         "acquire 1 a wait r:61\nacquire 2 b wait r:62\nmetrics\nacquire 3 c wait w:70\nmetrics\nrelease a\nrelease b\nrelease c\n",
-        "a 1 before -\na granted 1\nb 2 before -\nb granted 2\nmetrics global read 2 pending 2 write 0 local read 0 pending 0 write 0\nc 3 before -\nc granted 3\nmetrics global read 2 pending 0 write 1 local read 0 pending 0 write 0\na ended\nb ended\nc ended\nrequests 3 granted 3 checked 0 poisoned 0 cancelled 0 never 0\n",
+        "a 1 before -\na granted 1\nb 2 before -\nb granted 2\n\
+         metrics global read 2 pending 2 write 0 local read 0 pending 0 write 0\nc 3 before -\nc granted 3\n\
+         metrics global read 2 pending 0 write 1 local read 0 pending 0 write 0\na ended\nb ended\nc ended\n\
+         requests 3 granted 3 checked 0 poisoned 0 cancelled 0 never 0\n",
     )?;
     // a look with a write sees pending reads
     writes(
         &rt,
         alloc,
         "acquire 1 a wait r:61\nlook 2 b wait w:70\nmetrics\nrelease b\nrelease a\n",
-        "a 1 before -\na granted 1\nb 2 before -\nb granted 2\nmetrics global read 1 pending 0 write 0 local read 0 pending 0 write 0\nb ended\na ended\nrequests 2 granted 2 checked 0 poisoned 0 cancelled 0 never 0\n",
+        "a 1 before -\na granted 1\nb 2 before -\nb granted 2\n\
+         metrics global read 1 pending 0 write 0 local read 0 pending 0 write 0\nb ended\na ended\n\
+         requests 2 granted 2 checked 0 poisoned 0 cancelled 0 never 0\n",
     )?;
     Ok(())
 }
@@ -240,43 +277,51 @@ fn poison_spreads_and_stays(rt: HostRuntime) -> Result<(), Fail> {
     writes(
         &rt,
         alloc,
-        "acquire 1 a wait w:61\npoison a\nacquire 2 b wait w:61-63\nacquire 3 c wait w:62-65\nacquire 4 d wait w:64-67\nrelease a\nwait b\nrelease b\nwait c\nrelease c\nwait d\nrelease d\n",
-        "a 1 before -\na granted 1\na poisons\nb 2 before 1\nb spreads 1\nb blocked 1 61@0.0\nc 3 before 2\nc spreads 2\nc blocked 2 61-63@0.0\nd 4 before 3\nd spreads 3\nd blocked 3 62-65@0.0\na ended\nb granted 5\nb ended\nc granted 6\nc ended\nd granted 7\nd ended\nrequests 4 granted 4 checked 0 poisoned 0 cancelled 0 never 0\n",
+        "acquire 1 a wait w:61\npoison a\nacquire 2 b wait w:61-63\nacquire 3 c wait w:62-65\nacquire 4 d wait w:64-67\n\
+         release a\nwait b\nrelease b\nwait c\nrelease c\nwait d\nrelease d\n",
+        "a 1 before -\na granted 1\na poisons\nb 2 before 1\nb spreads 1\nb blocked 1 61@0.0\nc 3 before 2\nc spreads 2\n\
+         c blocked 2 61-63@0.0\nd 4 before 3\nd spreads 3\nd blocked 3 62-65@0.0\na ended\nb granted 5\nb ended\nc granted 6\n\
+         c ended\nd granted 7\nd ended\nrequests 4 granted 4 checked 0 poisoned 0 cancelled 0 never 0\n",
     )?;
     // a call after a spread writes nothing: the cause that is there stays
     writes(
         &rt,
         alloc,
         "acquire 1 a wait w:61\npoison a\nacquire 2 b wait w:61\npoison b\nrelease a\nwait b\npoison b\nrelease b\n",
-        "a 1 before -\na granted 1\na poisons\nb 2 before 1\nb spreads 1\nb blocked 1 61@0.0\na ended\nb granted 3\nb ended\nrequests 2 granted 2 checked 0 poisoned 0 cancelled 0 never 0\n",
+        "a 1 before -\na granted 1\na poisons\nb 2 before 1\nb spreads 1\nb blocked 1 61@0.0\na ended\nb granted 3\nb ended\n\
+         requests 2 granted 2 checked 0 poisoned 0 cancelled 0 never 0\n",
     )?;
     // a call before: the poison of the other spreads no more
     writes(
         &rt,
         alloc,
         "acquire 1 a wait w:61\nacquire 2 b wait w:61\npoison b\npoison a\nwait b\nrelease a\nrelease b\n",
-        "a 1 before -\na granted 1\nb 2 before 1\nb blocked 1 61@0.0\nb poisons\na poisons\nb blocked 1 61@0.0\na ended\nb ended\nrequests 2 granted 1 checked 0 poisoned 0 cancelled 0 never 1\n",
+        "a 1 before -\na granted 1\nb 2 before 1\nb blocked 1 61@0.0\nb poisons\na poisons\nb blocked 1 61@0.0\na ended\n\
+         b ended\nrequests 2 granted 1 checked 0 poisoned 0 cancelled 0 never 1\n",
     )?;
     // a wait after the cancellation does nothing
     writes(
         &rt,
         alloc,
         "acquire 1 a wait w:61\nacquire 2 b wait turns=1 w:61\nwait b\nrelease b\nrelease a\n",
-        "a 1 before -\na granted 1\nb 2 before 1\nb blocked 1 61@0.0\nb cancelled\nb ended\na ended\nrequests 2 granted 1 checked 0 poisoned 0 cancelled 1 never 0\n",
+        "a 1 before -\na granted 1\nb 2 before 1\nb blocked 1 61@0.0\nb cancelled\nb ended\na ended\n\
+         requests 2 granted 1 checked 0 poisoned 0 cancelled 1 never 0\n",
     )?;
     // the turns run out at the turn in which the poison spreads
     writes(
         &rt,
         alloc,
         "acquire 1 a wait w:61\npoison a\nacquire 2 b wait turns=1 w:61\nrelease b\nrelease a\n",
-        "a 1 before -\na granted 1\na poisons\nb 2 before 1\nb spreads 1\nb blocked 1 61@0.0\nb cancelled\nb ended\na ended\nrequests 2 granted 1 checked 0 poisoned 0 cancelled 1 never 0\n",
+        "a 1 before -\na granted 1\na poisons\nb 2 before 1\nb spreads 1\nb blocked 1 61@0.0\nb cancelled\nb ended\na ended\n\
+         requests 2 granted 1 checked 0 poisoned 0 cancelled 1 never 0\n",
     )?;
     // a request that is released while it is blocked holds nothing any more
     writes(
         &rt,
         alloc,
         "acquire 1 a wait w:61\nacquire 2 b wait w:61\nrelease b\nacquire 2 c wait w:61\nrelease a\nwait c\nrelease c\n",
-        "a 1 before -\na granted 1\nb 2 before 1\nb blocked 1 61@0.0\nb ended\nc 3 before 1\nc blocked 1 61@0.0\na ended\nc granted 5\nc ended\nrequests 3 granted 2 checked 0 poisoned 0 cancelled 0 never 1\n",
+        "a 1 before -\na granted 1\nb 2 before 1\nb blocked 1 61@0.0\nb ended\nc 3 before 1\nc blocked 1 61@0.0\na ended\n\
+         c granted 5\nc ended\nrequests 3 granted 2 checked 0 poisoned 0 cancelled 0 never 1\n",
     )?;
     Ok(())
 }
@@ -289,7 +334,8 @@ fn checks_pass_meet_or_are_undeclared(rt: HostRuntime) -> Result<(), Fail> {
         &rt,
         alloc,
         "acquire 1 a wait w:70\noptimistic 2 b wait r:61-7a\ncheck b r:70\nwait b\nrelease a\nwait b\nrelease b\n",
-        "a 1 before -\na granted 1\nb 2 before 1\nb met 1 70@0.0\nb blocked 1 70@0.0\na ended\nb granted 3\nb ended\nrequests 2 granted 2 checked 0 poisoned 0 cancelled 0 never 0\n",
+        "a 1 before -\na granted 1\nb 2 before 1\nb met 1 70@0.0\nb blocked 1 70@0.0\na ended\nb granted 3\nb ended\n\
+         requests 2 granted 2 checked 0 poisoned 0 cancelled 0 never 0\n",
     )?;
     // a check of nothing passes
     writes(
@@ -302,8 +348,10 @@ fn checks_pass_meet_or_are_undeclared(rt: HostRuntime) -> Result<(), Fail> {
     writes(
         &rt,
         alloc,
-        "acquire 1 a wait w:70\noptimistic 2 b wait r:61-7a\ncheck b r:61\ncheck b w:61\nrelease b\noptimistic 2 c wait r:61-7a\ncheck c r:61\ncheck c r:70\nrelease c\nrelease a\n",
-        "a 1 before -\na granted 1\nb 2 before 1\nb clear\nb undeclared 0\nb ended\nc 3 before 1\nc clear\nc met 1 70@0.0\nc ended\na ended\nrequests 3 granted 1 checked 1 poisoned 0 cancelled 0 never 1\n",
+        "acquire 1 a wait w:70\noptimistic 2 b wait r:61-7a\ncheck b r:61\ncheck b w:61\nrelease b\n\
+         optimistic 2 c wait r:61-7a\ncheck c r:61\ncheck c r:70\nrelease c\nrelease a\n",
+        "a 1 before -\na granted 1\nb 2 before 1\nb clear\nb undeclared 0\nb ended\nc 3 before 1\nc clear\nc met 1 70@0.0\n\
+         c ended\na ended\nrequests 3 granted 1 checked 1 poisoned 0 cancelled 0 never 1\n",
     )?;
     // no key is between 61 and 6100, so that range lies in the single key
     writes(
@@ -329,8 +377,14 @@ fn metrics_between_looks(rt: HostRuntime) -> Result<(), Fail> {
     writes(
         &rt,
         alloc,
-        "acquire 1 a wait r:61\nmetrics\nlook 2 b wait r:61\nmetrics\nlook 3 c wait w:70\nmetrics\nacquire 4 d wait r:62\nmetrics\nrelease a\nmetrics\nrelease b\nrelease c\nrelease d\n",
-        "a 1 before -\na granted 1\nmetrics global read 1 pending 1 write 0 local read 0 pending 0 write 0\nb 2 before -\nb granted 2\nmetrics global read 1 pending 1 write 0 local read 0 pending 0 write 0\nc 3 before -\nc granted 4\nmetrics global read 1 pending 0 write 0 local read 0 pending 0 write 0\nd 4 before -\nd granted 6\nmetrics global read 2 pending 1 write 0 local read 0 pending 0 write 0\na ended\nmetrics global read 1 pending 1 write 0 local read 0 pending 0 write 0\nb ended\nc ended\nd ended\nrequests 4 granted 4 checked 0 poisoned 0 cancelled 0 never 0\n",
+        "acquire 1 a wait r:61\nmetrics\nlook 2 b wait r:61\nmetrics\nlook 3 c wait w:70\nmetrics\nacquire 4 d wait r:62\n\
+         metrics\nrelease a\nmetrics\nrelease b\nrelease c\nrelease d\n",
+        "a 1 before -\na granted 1\nmetrics global read 1 pending 1 write 0 local read 0 pending 0 write 0\nb 2 before -\n\
+         b granted 2\nmetrics global read 1 pending 1 write 0 local read 0 pending 0 write 0\nc 3 before -\nc granted 4\n\
+         metrics global read 1 pending 0 write 0 local read 0 pending 0 write 0\nd 4 before -\nd granted 6\n\
+         metrics global read 2 pending 1 write 0 local read 0 pending 0 write 0\na ended\n\
+         metrics global read 1 pending 1 write 0 local read 0 pending 0 write 0\nb ended\nc ended\nd ended\n\
+         requests 4 granted 4 checked 0 poisoned 0 cancelled 0 never 0\n",
     )?;
     Ok(())
 }
@@ -348,12 +402,28 @@ fn each_status_has_its_line(rt: HostRuntime) -> Result<(), Fail> {
     fails(&rt, alloc, &[0], &[1], Status::WriteFault, b"read ")?;
     // words that are no form, whatever the devices do
     let usage = b"usage: latch step | replay [--json] | make N | help\n";
-    let ran_bad = ran(alloc, "steps", b"", &[0], &[])?;
-    assert!(rt; ran_bad.status == Status::Usage);
-    assert!(rt; ran_bad.written.as_slice() == usage.as_slice());
-    let ran_unwritten = ran(alloc, "bad", b"", &[], &[0])?;
+    let other: [&[&str]; 4] = [&[], &["steps"], &["Step"], &["step", "step"]];
+    for words in other {
+        let ran_bad = ran(alloc, words, b"", &[0], &[])?;
+        assert!(rt; ran_bad.status == Status::Usage);
+        assert!(rt; ran_bad.written.as_slice() == usage.as_slice());
+    }
+    let ran_unwritten = ran(alloc, &["bad"], b"", &[], &[0])?;
     assert!(rt; ran_unwritten.status == Status::WriteFault);
     assert!(rt; ran_unwritten.written.is_empty());
+    Ok(())
+}
+
+#[test]
+fn an_input_may_come_byte_by_byte(rt: HostRuntime) -> Result<(), Fail> {
+    let alloc = rt.alloc();
+    let input = b"latch script 1\nacquire 1 a wait w:61\nrelease a\nend\n";
+    let source = MemSource::new(Vec::from_slice(alloc, input)?, 1, Vec::new(alloc));
+    let ran = ran_on(alloc, &["step"], source, &[])?;
+    assert!(rt; ran.status == Status::Done);
+    let output =
+        b"a 1 before -\na granted 1\na ended\nrequests 1 granted 1 checked 0 poisoned 0 cancelled 0 never 0\n";
+    assert!(rt; ran.written.as_slice() == output.as_slice());
     Ok(())
 }
 

@@ -180,7 +180,8 @@ impl Sink for MemSink {
         ensures count { IfOk result (λ n. n ≡ min (min self.old.piece (length piece.now)) self.old.room) }
         ensures some { IfOk result (λ n. 0 < n) }
         ensures never_falls { self.old.faults ≤ self.new.faults }
-        ensures after { IfOk result (λ n. self.new ≡ record self.old { bytes = self.old.bytes ++ take n piece.now; room = self.old.room - n; writes = next_count self.old.writes }) }
+        ensures after { IfOk result (λ n. self.new ≡
+            record self.old { bytes = self.old.bytes ++ take n piece.now; room = self.old.room - n; writes = next_count self.old.writes }) }
         ensures after_fault { OnErr result (self.new ≡ record self.old { writes = next_count self.old.writes; faults = next_count self.old.faults }) }
     {
         let write = self.writes;

@@ -1,13 +1,24 @@
-use Rattle.std.proofs.Common.{rules, ◌≡◌, ap, sym, subst, List, ℕ, map}
-use Rattle.std.specs.String.{string_bytes}
-use Rattle.latch_tool.proofs.Facts.{answer_is_no_fault, decides_answer}
-use Rattle.latch_tool.specs.Words.{IsStep}
+use Rattle.std.proofs.Common.{◌≡◌, ◌≢◌, ◌∙◌, ap, subst, sym}
+use Rattle.latch_tool.specs.Outcomes.{WritesAll, reading}
+use Rattle.latch_tool.specs.Words.{reads}
+use Rattle.latch_tool.proofs.Endings.{step_done, writes_steps}
+use Rattle.latch_tool.specs.declared.form.Form.TheVariants as form
+use Rattle.latch_tool.specs.declared.status.Status.{Status}
+use Rattle.latch_tool.specs.declared.status.Status.TheVariants.{Done, WriteFault}
 use Rattle.latch_tool.proofs.run.run_still.Goals as goal
 
-pub returns-in-Ok-clause-part : goal.returns-in-Ok-clause-part
-returns-in-Ok-clause-part g c fails =
-    let step : IsStep (map string_bytes c.args.words.now) = c.is_step.ensures.0 (search rules) in
-    let told = g.S.Source.left c.args.source.now in
-    let answer = c.in-Ok.answer in
-    let part = c.tell-in-Ok.ensures.part fails (answer_is_no_fault told answer.status answer.text.items c.in-Ok.ensures.answered) in
-    (answer.status, answer.text.items, decides_answer _ told answer.status answer.text.items step c.in-Ok.ensures.answered, rw c.as_slice.ensures.value at part)
+pub returns-in-Step-clause-steps : goal.returns-in-Step-clause-steps
+returns-in-Step-clause-steps g c = λ _ done.
+    let source = reading g.S.Source.left g.S.Source.faults c.args.source.now c.step.new.source in
+    let before = g.O.Sink.written c.args.sink.now in
+    let now = g.O.Sink.written c.step.new.sink in
+    let whole : c.step.result ≢ WriteFault = λ e. let d : Done ≡ WriteFault = sym done ∙ e in absurd cc in
+    writes_steps source before now (subst (λ (s : Status). WritesAll form.Step source s before now) done (c.step.ensures.written whole))
+
+pub returns-in-Step-clause-complete : goal.returns-in-Step-clause-complete
+returns-in-Step-clause-complete g c = λ _ has sound kept.
+    let source = reading g.S.Source.left g.S.Source.faults c.args.source.now c.step.new.source in
+    let before = g.O.Sink.written c.args.sink.now in
+    let now = g.O.Sink.written c.step.new.sink in
+    let is = ap reads (sym c.in-Step.ensures) in
+    step_done source c.step.result before now (has is) sound (c.step.ensures.written (λ e. kept (c.step.ensures.write_fault e)))

@@ -8,5 +8,8 @@ pub loop-done-preserved : goal.loop-done-preserved
 loop-done-preserved g c =
     let piece = c.args.piece.now in
     let n = c.in_ok-done.field-0 in
-    let next = subst (λ l. Appends (g.O.Sink.written c.loop-done.sink) (g.O.Sink.written c.write.new.self) (take n l)) (take_rest piece c.loop-done.done) c.in_ok-done.ensures.appended in
-    (omega (arith, c.in_ok-done.ensures.within), Appends-more _ _ _ piece c.loop-done.done n c.loop-done.invariant.1 next, omega (arith, c.in_ok-done.ensures.never_falls))
+    let write = c.in_ok-done.ensures in
+    let rest = take_rest piece c.loop-done.done in
+    let next = subst (λ l. Appends (g.O.Sink.written c.loop-done.sink) (g.O.Sink.written c.write.new.self) (take n l)) rest write.appended in
+    let more = Appends-more _ _ _ piece c.loop-done.done n c.loop-done.invariant.1 next in
+    (omega (arith, write.within), more, omega (arith, write.never_falls))
