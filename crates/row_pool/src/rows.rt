@@ -13,7 +13,7 @@ ghost use Rattle.row_pool.specs.Rule.{freed, tree_of, goal_of, take_out, fresh, 
 ghost use Rattle.row_pool.specs.Rule.{goes, both};
 
 use crate::chain::Chain;
-use crate::plays::{Both, Cut, Free, Hold, Look, Lower, Own, Picks, Publish, Relink, Turn, Write};
+use crate::plays::{Both, Cut, Free, Hold, Look, Lower, Note, Own, Picks, Publish, Relink, Turn, Write};
 use crate::view::{CountRule, View};
 use atomic_table::{Seat, Table};
 use std::alloc::Global;
@@ -124,7 +124,7 @@ fn word_of(n: u32, k: usize) -> u64
     }
 }
 
-fn first_words(alloc: Global, n: u32) -> Result<Vec<u64>, AllocError>
+fn first_words(alloc: Global, n: u32) -> Result<Vec<u64>, Memory>
     requires { n ≤ 4194304 }
     ensures { IfOk result (λ v. (length v.items ≡ n * 80) × ((k : ℕ) → k < n * 80 → slice_index v.items k ≡ word_at n k)) }
 {
@@ -169,6 +169,19 @@ impl Rows {
         self.table
             .shared
             .load::<Look>(&mut seat.seat, row as usize * 80 + word as usize)
+    }
+
+    /// A word of an owned row that is no counted link, and not the kind. The view knows it from then on.
+    pub fn note(&self, seat: &mut RowSeat, row: u32, word: u32) -> u64
+        requires table { seat.old.table ≡ self.now }
+        requires owned { (e : Entry) × (find row seat.old.sight.owned ≡ some e) × IsPlain e.kind word × (0 < e.kind → word ≢ 1) }
+        ensures same { Still seat.old seat.new }
+        ensures sight { (e : Entry) → find row seat.old.sight.owned ≡ some e → seat.new.sight ≡ with_entry row (written word result e) seat.old.sight }
+        ensures known { (e : Entry) (n : ℕ) → find row seat.old.sight.owned ≡ some e → find word e.known ≡ some n → result ≡ n }
+    {
+        self.table
+            .shared
+            .load::<Note>(&mut seat.seat, row as usize * 80 + word as usize)
     }
 
     /// The row that a counted link names. It counts.
