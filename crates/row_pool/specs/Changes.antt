@@ -101,19 +101,6 @@ pub record Becomes (r : ℕ) (e : Entry) (us : List Tree) (t : Tree) : Type 0 wh
   pub kind : slice_index (words_of t) 1 ≡ e.kind
   pub known : (w n : ℕ) → IsContent e.kind w → find w e.known ≡ some n → slice_index (words_of t) w ≡ n
 
-abbrev pub counted_as : ℕ → ℕ → Entry → Entry
-counted_as own linked e = record { kind = e.kind; own = own; linked = linked; links = e.links; known = e.known }
-
--- a reference of the owner's to its row r becomes the link k of its row q, or the other way
-abbrev pub moved : ℕ → Entry → ℕ → ℕ → ℕ → Entry → ℕ → Link → SeatView → SeatView
-moved r e own linked q d k l v = record {
-  refs = v.refs;
-  owned = put q (with_link k l d) (put r (counted_as own linked e) v.owned);
-  number = v.number;
-  out = v.out;
-  size = v.size;
-}
-
 -- A live row t to which the link k of the owned row q alone leads is owned, and the link leads to an own row
 abbrev pub own_linked_row : Tree → ℕ → ℕ → ℕ → Entry → SeatView → SeatView
 own_linked_row t r q k d v = record {

@@ -237,7 +237,7 @@ impl Rows {
     pub fn own_if_single(&self, seat: &mut RowSeat, row: u32) -> bool
         requires table { seat.old.table ≡ self.now }
         requires reference { (tree_word (tree_of row seat.old.view.refs) ≡ suc row)
-            ⊎ ((q : ℕ) × (k : ℕ) × (d : Entry) × (t : Tree) × LinksToLive seat.old.view row q k d t × (length seat.old.view.refs < 2 ^ 32)) }
+            ⊎ ((q : ℕ) × (k : ℕ) × (d : Entry) × (t : Tree) × LinksToLive seat.old.view row q k d t) }
         ensures same { OnlyViewChanges seat.old seat.new }
         ensures owned { IsTrue result → tree_word (tree_of row seat.old.view.refs) ≡ suc row
             → seat.new.view ≡ own_row (tree_of row seat.old.view.refs) row 1 seat.old.view }
@@ -486,7 +486,7 @@ impl Rows {
         requires whole { (e : Entry) × (us : List Tree) × (find row seat.old.view.owned ≡ some e) × (0 < e.kind) × (e.links ≡ map to us)
             × ((k : ℕ) (u : Tree) → get_elem? us k ≡ some u → depth u ≤ 3)
             × ((e.linked ≡ 0) ⊎ ((e.linked ≡ 1) × ((q : ℕ) × (k : ℕ) × (d : Entry) × LinksToOwned seat.old.view row q k d))) }
-        requires room { length seat.old.view.refs < 2 ^ 32 }
+        requires room { (e : Entry) → find row seat.old.view.owned ≡ some e → e.linked ≡ 0 → length seat.old.view.refs < 2 ^ 32 }
         ensures same { OnlyViewChanges seat.old seat.new }
         ensures view { (e : Entry) (us : List Tree) → find row seat.old.view.owned ≡ some e → e.linked ≡ 0 → e.links ≡ map to us
             → (t : Tree) × Becomes row e us t × (seat.new.view ≡ published row t seat.old.view) }
