@@ -4,16 +4,20 @@ ghost use Rattle.std.specs.Prelude.{IsFalse, IfOk};
 ghost use mathlib.Core.Option.{none, some};
 ghost use lib.ListN.{get_elem?};
 ghost use Rattle.atomic_table.specs.Seated.{TableId, table_id_coded};
-ghost use Rattle.row_pool.specs.Trees.{Tree, gap, Entry, Link, to, link_word, named, words_of, kids, depth};
-ghost use Rattle.row_pool.specs.Known.{Known, known_coded, Near, NearAs, IsLink, LinkAt, LinksTo, LinksOwn, Blank, NewNode, Still, kind_of, row_of, link_to};
-ghost use Rattle.row_pool.specs.Known.{Good, OnChain, Marked, Grows, Only};
-ghost use Rattle.row_pool.specs.Lists.{mem};
-ghost use Rattle.row_pool.specs.Rule.{base, fan, find, Reaches, Sound, IsPlain, Alone, Empty, with_ref, without_ref, with_entry, seize, seize_link, relinked};
-ghost use Rattle.row_pool.specs.Rule.{freed, tree_of, goal_of, take_out, fresh, word_at, written, turned_into, published, publish_link, Becomes, Has, stays};
-ghost use Rattle.row_pool.specs.Rule.{goes, both};
+ghost use Rattle.row_pool.specs.Lists.{mem, find};
+ghost use Rattle.row_pool.specs.Trees.{Tree, nil, Entry, Link, to, link_word, tree_word, words_of, children, depth};
+ghost use Rattle.row_pool.specs.Layout.{IsLink, first_link, link_count, IsContent, word_at};
+ghost use Rattle.row_pool.specs.Changes.{with_ref, without_ref, with_entry, own_row, own_linked_row, relinked, freed, tree_of};
+ghost use Rattle.row_pool.specs.Changes.{target_of, without_tree, fresh, written, turned_into, published, published_by_link, Becomes};
+ghost use Rattle.row_pool.specs.Changes.{HasRefs, remaining, split_off, joined};
+ghost use Rattle.row_pool.specs.Views.{Reaches, ViewInvariant, Alone, Empty};
+ghost use Rattle.row_pool.specs.SeatState.{SeatState, state_coded, OwnsOrReaches, OwnsOrReachesAs, LinkAt, LinksToLive, LinksToOwned, IsNewNode, OnlyViewChanges};
+ghost use Rattle.row_pool.specs.SeatState.{kind_of, row_of, link_to, SeatInvariant, OnlyEntryChanges};
+ghost use Rattle.row_pool.specs.Chains.{IsChain, HasMark, ChainGrows};
+ghost use Rattle.row_pool.specs.Loops.{HasZeros};
 
 use crate::chain::Chain;
-use crate::plays::{Both, Cut, Free, Hold, Look, Lower, Own, Picks, Publish, Relink, Turn, Write};
+use crate::steps::{JoinViews, SplitRefs, Free, Hold, Read, DropRef, Note, OwnIfSingle, MovedRows, Publish, SetLink, SetKind, Write};
 use crate::view::{CountRule, View};
 use atomic_table::{Seat, Table};
 use std::alloc::Global;
@@ -44,19 +48,19 @@ pub struct RowSeat {
 }
 
 impl Model for RowSeat {
-    ghost Value = { Known };
+    ghost Value = { SeatState };
 
-    ghost coded = { known_coded };
+    ghost coded = { state_coded };
 
-    ghost view = { λ s. record { table = s.seat.table_id; sight = s.seat.me.0; follows = s.follows } };
+    ghost view = { λ s. record { table = s.seat.table_id; view = s.seat.me.0; follows = s.follows } };
 
-    ghost invariant = { λ s. Good s.seat.table_id s.seat.me };
+    ghost invariant = { λ s. SeatInvariant s.seat.table_id s.seat.me };
 }
 
 impl RowSeat {
     /// What holds of each seat between any two steps of anyone.
     pub fn known(&self)
-        ensures { Sound self.now.sight }
+        ensures { ViewInvariant self.now.view }
     {
         let _ = &self.follows;
     }
@@ -69,8 +73,8 @@ impl RowSeat {
     }
 }
 
-fn fan_of(kind: u64) -> u32
-    ensures { result ≡ fan kind }
+fn link_count_of(kind: u64) -> u32
+    ensures { result ≡ link_count kind }
 {
     match kind {
         2 | 3 => 64,
@@ -78,8 +82,8 @@ fn fan_of(kind: u64) -> u32
     }
 }
 
-fn base_of(kind: u64) -> u32
-    ensures { result ≡ base kind }
+fn first_link_of(kind: u64) -> u32
+    ensures { result ≡ first_link kind }
 {
     if kind == 1 { 75 } else { 3 }
 }
@@ -124,7 +128,7 @@ fn word_of(n: u32, k: usize) -> u64
     }
 }
 
-fn first_words(alloc: Global, n: u32) -> Result<Vec<u64>, AllocError>
+fn first_words(alloc: Global, n: u32) -> Result<Vec<u64>, Memory>
     requires { n ≤ 4194304 }
     ensures { IfOk result (λ v. (length v.items ≡ n * 80) × ((k : ℕ) → k < n * 80 → slice_index v.items k ≡ word_at n k)) }
 {
@@ -139,12 +143,12 @@ impl Rows {
     /// A pool of n rows. All are in the chain.
     pub fn new(alloc: Global, n: u32) -> Result<(Rows, RowSeat, Chain), Memory>
         requires { (1 ≤ n) × (n ≤ 4194304) }
-        ensures pool { IfOk result (λ r. (r.1.table ≡ r.0) × (r.1.sight ≡ fresh n) × (r.1.follows ≡ 0)) }
-        ensures chain { IfOk result (λ r. (rs : List ℕ) × OnChain (fresh n) r.2 rs × (length rs ≡ n) × ((q : ℕ) → q < n → mem q rs ≡ true)) }
+        ensures pool { IfOk result (λ r. (r.1.table ≡ r.0) × (r.1.view ≡ fresh n) × (r.1.follows ≡ 0)) }
+        ensures chain { IfOk result (λ r. (rs : List ℕ) × IsChain (fresh n) r.2 rs × (length rs ≡ n) × ((q : ℕ) → q < n → mem q rs ≡ true)) }
     {
         let words = first_words(alloc, n)?;
         let (table, mut seat) = Table::of_words(alloc, words.as_slice(), &n)?;
-        table.shared.load::<Look>(&mut seat, 0);
+        table.shared.load::<Read>(&mut seat, 0);
         let rows = Rows { table };
         let seat = RowSeat { seat, follows: 0 };
         Ok((
@@ -161,30 +165,43 @@ impl Rows {
     /// A word of a row that the seat owns or reaches, and that is no counted link.
     pub fn read(&self, seat: &mut RowSeat, row: u32, word: u32) -> u64
         requires table { seat.old.table ≡ self.now }
-        requires near { NearAs (λ kind. IsPlain kind word) seat.old.sight row }
+        requires reachable { OwnsOrReachesAs (λ kind. IsContent kind word) seat.old.view row }
         ensures same { seat.new ≡ seat.old }
-        ensures tree { (t : Tree) → Reaches seat.old.sight t → named t ≡ suc row → result ≡ slice_index (words_of t) word }
-        ensures known { (e : Entry) (n : ℕ) → find row seat.old.sight.owned ≡ some e → find word e.known ≡ some n → result ≡ n }
+        ensures tree { (t : Tree) → Reaches seat.old.view t → tree_word t ≡ suc row → result ≡ slice_index (words_of t) word }
+        ensures known { (e : Entry) (n : ℕ) → find row seat.old.view.owned ≡ some e → find word e.known ≡ some n → result ≡ n }
     {
         self.table
             .shared
-            .load::<Look>(&mut seat.seat, row as usize * 80 + word as usize)
+            .load::<Read>(&mut seat.seat, row as usize * 80 + word as usize)
+    }
+
+    /// A word of an owned row that is no counted link, and not the kind. The view knows it from then on.
+    pub fn note(&self, seat: &mut RowSeat, row: u32, word: u32) -> u64
+        requires table { seat.old.table ≡ self.now }
+        requires owned { (e : Entry) × (find row seat.old.view.owned ≡ some e) × IsContent e.kind word × (0 < e.kind → word ≢ 1) }
+        ensures same { OnlyViewChanges seat.old seat.new }
+        ensures view { (e : Entry) → find row seat.old.view.owned ≡ some e → seat.new.view ≡ with_entry row (written word result e) seat.old.view }
+        ensures known { (e : Entry) (n : ℕ) → find row seat.old.view.owned ≡ some e → find word e.known ≡ some n → result ≡ n }
+    {
+        self.table
+            .shared
+            .load::<Note>(&mut seat.seat, row as usize * 80 + word as usize)
     }
 
     /// The row that a counted link names. It counts.
     pub fn follow(&self, seat: &mut RowSeat, row: u32, word: u32) -> Option<u32>
         requires table { seat.old.table ≡ self.now }
-        requires near { NearAs (λ kind. IsLink kind word) seat.old.sight row }
-        ensures same { (seat.new.table ≡ seat.old.table) × (seat.new.sight ≡ seat.old.sight) }
+        requires reachable { OwnsOrReachesAs (λ kind. IsLink kind word) seat.old.view row }
+        ensures same { (seat.new.table ≡ seat.old.table) × (seat.new.view ≡ seat.old.view) }
         ensures follows { seat.new.follows ≡ min (seat.old.follows + 1) (2 ^ 64 - 1) }
-        ensures tree { (t u : Tree) (k : ℕ) → Reaches seat.old.sight t → named t ≡ suc row → word ≡ base (kind_of t) + k → get_elem? (kids t) k ≡ some u
-            → result ≡ row_of (named u) }
-        ensures owned { (e : Entry) (l : Link) (k : ℕ) → LinkAt seat.old.sight row word e k l → result ≡ row_of (link_word l) }
+        ensures tree { (t u : Tree) (k : ℕ) → Reaches seat.old.view t → tree_word t ≡ suc row → word ≡ first_link (kind_of t) + k → get_elem? (children t) k ≡ some u
+            → result ≡ row_of (tree_word u) }
+        ensures owned { (e : Entry) (l : Link) (k : ℕ) → LinkAt seat.old.view row word e k l → result ≡ row_of (link_word l) }
     {
         let link = self
             .table
             .shared
-            .load::<Look>(&mut seat.seat, row as usize * 80 + word as usize);
+            .load::<Read>(&mut seat.seat, row as usize * 80 + word as usize);
         seat.follows = seat.follows.saturating_add(1);
         row_named(link)
     }
@@ -192,10 +209,10 @@ impl Rows {
     /// One reference more to a row that the seat reaches.
     pub fn hold(&self, seat: &mut RowSeat, row: u32)
         requires table { seat.old.table ≡ self.now }
-        requires reach { (t : Tree) × Reaches seat.old.sight t × (named t ≡ suc row) }
-        requires room { length seat.old.sight.refs < 2 ^ 32 }
-        ensures same { Still seat.old seat.new }
-        ensures sight { (t : Tree) → named t ≡ suc row → Reaches seat.old.sight t → seat.new.sight ≡ with_ref t seat.old.sight }
+        requires reach { (t : Tree) × Reaches seat.old.view t × (tree_word t ≡ suc row) }
+        requires room { length seat.old.view.refs < 2 ^ 32 }
+        ensures same { OnlyViewChanges seat.old seat.new }
+        ensures view { (t : Tree) → tree_word t ≡ suc row → Reaches seat.old.view t → seat.new.view ≡ with_ref t seat.old.view }
     {
         self.table
             .shared
@@ -205,90 +222,90 @@ impl Rows {
     // A reference less. Where the answer is 1 it was the last, and the row is owned.
     fn lower(&self, seat: &mut RowSeat, row: u32) -> u64
         requires table { seat.old.table ≡ self.now }
-        requires reference { named (tree_of row seat.old.sight.refs) ≡ suc row }
-        ensures same { Still seat.old seat.new }
-        ensures last { result ≡ 1 → seat.new.sight ≡ seize (tree_of row seat.old.sight.refs) row 0 seat.old.sight }
-        ensures less { result ≢ 1 → seat.new.sight ≡ without_ref row seat.old.sight }
+        requires reference { tree_word (tree_of row seat.old.view.refs) ≡ suc row }
+        ensures same { OnlyViewChanges seat.old seat.new }
+        ensures last { result ≡ 1 → seat.new.view ≡ own_row (tree_of row seat.old.view.refs) row 0 seat.old.view }
+        ensures less { result ≢ 1 → seat.new.view ≡ without_ref row seat.old.view }
     {
         self.table
             .shared
-            .fetch_sub::<Lower>(&mut seat.seat, row as usize * 80, 1)
+            .fetch_sub::<DropRef>(&mut seat.seat, row as usize * 80, 1)
     }
 
     /// True exactly where the count was loaded as 1: the row is then owned. On the first seat, while no seat is split off, it is true of each row that is the
     /// seat's alone.
     pub fn own_if_single(&self, seat: &mut RowSeat, row: u32) -> bool
         requires table { seat.old.table ≡ self.now }
-        requires reference { (named (tree_of row seat.old.sight.refs) ≡ suc row)
-            ⊎ ((q : ℕ) × (k : ℕ) × (d : Entry) × (t : Tree) × LinksTo seat.old.sight row q k d t × (length seat.old.sight.refs < 2 ^ 32)) }
-        ensures same { Still seat.old seat.new }
-        ensures owned { IsTrue result → named (tree_of row seat.old.sight.refs) ≡ suc row
-            → seat.new.sight ≡ seize (tree_of row seat.old.sight.refs) row 1 seat.old.sight }
-        ensures under { IsTrue result → (q k : ℕ) (d : Entry) (t : Tree) → LinksTo seat.old.sight row q k d t
-            → seat.new.sight ≡ seize_link t row q k d seat.old.sight }
-        ensures shared { IsFalse result → seat.new.sight ≡ seat.old.sight }
-        ensures alone { seat.old.sight.number ≡ 1 → seat.old.sight.out ≡ [] → Alone row seat.old.sight → IsTrue result }
+        requires reference { (tree_word (tree_of row seat.old.view.refs) ≡ suc row)
+            ⊎ ((q : ℕ) × (k : ℕ) × (d : Entry) × (t : Tree) × LinksToLive seat.old.view row q k d t) }
+        ensures same { OnlyViewChanges seat.old seat.new }
+        ensures owned { IsTrue result → tree_word (tree_of row seat.old.view.refs) ≡ suc row
+            → seat.new.view ≡ own_row (tree_of row seat.old.view.refs) row 1 seat.old.view }
+        ensures through_link { IsTrue result → (q k : ℕ) (d : Entry) (t : Tree) → LinksToLive seat.old.view row q k d t
+            → seat.new.view ≡ own_linked_row t row q k d seat.old.view }
+        ensures shared { IsFalse result → seat.new.view ≡ seat.old.view }
+        ensures alone { seat.old.view.number ≡ 1 → seat.old.view.out ≡ [] → Alone row seat.old.view → IsTrue result }
     {
         self.table
             .shared
-            .load::<Own>(&mut seat.seat, row as usize * 80)
+            .load::<OwnIfSingle>(&mut seat.seat, row as usize * 80)
             == 1
     }
 
     // What a counted link of an owned row holds.
     fn link_at(&self, seat: &mut RowSeat, row: u32, word: u32) -> u64
         requires table { seat.old.table ≡ self.now }
-        requires link { (e : Entry) × (u : Tree) × (k : ℕ) × LinkAt seat.old.sight row word e k (to u) }
+        requires link { (e : Entry) × (u : Tree) × (k : ℕ) × LinkAt seat.old.view row word e k (to u) }
         ensures same { seat.new ≡ seat.old }
-        ensures value { (e : Entry) (u : Tree) (k : ℕ) → LinkAt seat.old.sight row word e k (to u) → result ≡ named u }
+        ensures value { (e : Entry) (u : Tree) (k : ℕ) → LinkAt seat.old.view row word e k (to u) → result ≡ tree_word u }
         ensures low { result ≤ 4194304 }
     {
         self.table
             .shared
-            .load::<Look>(&mut seat.seat, row as usize * 80 + word as usize)
+            .load::<Read>(&mut seat.seat, row as usize * 80 + word as usize)
     }
 
     // A counted link of an owned row gives its tree back and takes one of the seat's references.
-    fn relink(&self, seat: &mut RowSeat, row: u32, word: u32, goal: u64)
+    fn relink(&self, seat: &mut RowSeat, row: u32, word: u32, target: u64)
         requires table { seat.old.table ≡ self.now }
-        requires link { (e : Entry) × (u : Tree) × (k : ℕ) × LinkAt seat.old.sight row word e k (to u) }
-        requires goal { named (goal_of goal seat.old.sight.refs) ≡ goal }
-        requires room { goal ≡ 0 → length seat.old.sight.refs < 2 ^ 32 }
-        ensures same { Still seat.old seat.new }
-        ensures sight { (e : Entry) (u : Tree) (k : ℕ) → LinkAt seat.old.sight row word e k (to u)
-            → seat.new.sight ≡ relinked row e k u (goal_of goal seat.old.sight.refs) seat.old.sight }
+        requires link { (e : Entry) × (u : Tree) × (k : ℕ) × LinkAt seat.old.view row word e k (to u) }
+        requires target { tree_word (target_of target seat.old.view.refs) ≡ target }
+        requires room { target ≡ 0 → length seat.old.view.refs < 2 ^ 32 }
+        ensures same { OnlyViewChanges seat.old seat.new }
+        ensures view { (e : Entry) (u : Tree) (k : ℕ) → LinkAt seat.old.view row word e k (to u)
+            → seat.new.view ≡ relinked row e k u (target_of target seat.old.view.refs) seat.old.view }
     {
         self.table
             .shared
-            .store::<Relink>(&mut seat.seat, row as usize * 80 + word as usize, goal);
+            .store::<SetLink>(&mut seat.seat, row as usize * 80 + word as usize, target);
     }
 
     /// The reference that the link word `goal` names moves into a counted link of an owned row; what the link named becomes the newest reference of the seat,
     /// and is answered as a link word.
-    pub fn swap_link(&self, seat: &mut RowSeat, row: u32, word: u32, goal: u64) -> u64
+    pub fn swap_link(&self, seat: &mut RowSeat, row: u32, word: u32, target: u64) -> u64
         requires table { seat.old.table ≡ self.now }
-        requires link { (e : Entry) × (u : Tree) × (k : ℕ) × LinkAt seat.old.sight row word e k (to u) }
-        requires goal { named (goal_of goal seat.old.sight.refs) ≡ goal }
-        requires room { goal ≡ 0 → length seat.old.sight.refs < 2 ^ 32 }
-        ensures same { Still seat.old seat.new }
-        ensures sight { (e : Entry) (u : Tree) (k : ℕ) → LinkAt seat.old.sight row word e k (to u)
-            → (result ≡ named u) × (seat.new.sight ≡ relinked row e k u (goal_of goal seat.old.sight.refs) seat.old.sight) }
+        requires link { (e : Entry) × (u : Tree) × (k : ℕ) × LinkAt seat.old.view row word e k (to u) }
+        requires target { tree_word (target_of target seat.old.view.refs) ≡ target }
+        requires room { target ≡ 0 → length seat.old.view.refs < 2 ^ 32 }
+        ensures same { OnlyViewChanges seat.old seat.new }
+        ensures view { (e : Entry) (u : Tree) (k : ℕ) → LinkAt seat.old.view row word e k (to u)
+            → (result ≡ tree_word u) × (seat.new.view ≡ relinked row e k u (target_of target seat.old.view.refs) seat.old.view) }
         ensures low { result ≤ 4194304 }
     {
         let old = self.link_at(seat, row, word);
-        self.relink(seat, row, word, goal);
+        self.relink(seat, row, word, target);
         old
     }
 
     /// The reference to `to` moves into a counted link of an owned row; what the link named becomes a reference of the seat.
     pub fn link(&self, seat: &mut RowSeat, row: u32, word: u32, to: Option<u32>)
         requires table { seat.old.table ≡ self.now }
-        requires link { (e : Entry) × (u : Tree) × (k : ℕ) × LinkAt seat.old.sight row word e k (Link.to u) }
-        requires goal { named (goal_of (link_to to) seat.old.sight.refs) ≡ link_to to }
-        requires room { link_to to ≡ 0 → length seat.old.sight.refs < 2 ^ 32 }
-        ensures same { Still seat.old seat.new }
-        ensures sight { (e : Entry) (u : Tree) (k : ℕ) → LinkAt seat.old.sight row word e k (Link.to u)
-            → seat.new.sight ≡ relinked row e k u (goal_of (link_to to) seat.old.sight.refs) seat.old.sight }
+        requires link { (e : Entry) × (u : Tree) × (k : ℕ) × LinkAt seat.old.view row word e k (Link.to u) }
+        requires target { tree_word (target_of (link_to to) seat.old.view.refs) ≡ link_to to }
+        requires room { link_to to ≡ 0 → length seat.old.view.refs < 2 ^ 32 }
+        ensures same { OnlyViewChanges seat.old seat.new }
+        ensures view { (e : Entry) (u : Tree) (k : ℕ) → LinkAt seat.old.view row word e k (Link.to u)
+            → seat.new.view ≡ relinked row e k u (target_of (link_to to) seat.old.view.refs) seat.old.view }
     {
         self.swap_link(seat, row, word, word_for(to));
     }
@@ -296,9 +313,9 @@ impl Rows {
     // An owned row without links goes free, with a link to the next of a chain.
     fn free(&self, seat: &mut RowSeat, row: u32, next: u64)
         requires table { seat.old.table ≡ self.now }
-        requires empty { (e : Entry) × (find row seat.old.sight.owned ≡ some e) × Empty e.links }
-        ensures same { Still seat.old seat.new }
-        ensures sight { (e : Entry) → find row seat.old.sight.owned ≡ some e → seat.new.sight ≡ with_entry row (freed next e) seat.old.sight }
+        requires empty { (e : Entry) × (find row seat.old.view.owned ≡ some e) × Empty e.links }
+        ensures same { OnlyViewChanges seat.old seat.new }
+        ensures view { (e : Entry) → find row seat.old.view.owned ≡ some e → seat.new.view ≡ with_entry row (freed next e) seat.old.view }
     {
         self.table
             .shared
@@ -308,17 +325,17 @@ impl Rows {
     /// The count falls. Rows that reach 0 go into the chain, with a mark where their links' words hold 0.
     pub fn drop_ref(&self, seat: &mut RowSeat, row: u32, chain: &mut Chain)
         requires table { seat.old.table ≡ self.now }
-        requires reference { named (tree_of row seat.old.sight.refs) ≡ suc row }
-        requires chain { (rs : List ℕ) × OnChain seat.old.sight chain.old rs }
-        ensures same { Still seat.old seat.new }
-        ensures refs { seat.new.sight.refs ≡ take_out row seat.old.sight.refs }
-        ensures chain { Grows seat.old.sight seat.new.sight chain.old chain.new }
+        requires reference { tree_word (tree_of row seat.old.view.refs) ≡ suc row }
+        requires chain { (rs : List ℕ) × IsChain seat.old.view chain.old rs }
+        ensures same { OnlyViewChanges seat.old seat.new }
+        ensures refs { seat.new.view.refs ≡ without_tree row seat.old.view.refs }
+        ensures chain { ChainGrows seat.old.view seat.new.view chain.old chain.new }
     {
         seat.known();
         let kind = self.read(seat, row, 1);
         if self.lower(seat, row) == 1 {
-            let first = base_of(kind);
-            let links = fan_of(kind);
+            let first = first_link_of(kind);
+            let links = link_count_of(kind);
             for k in 0..links {
                 let target = self.link_at(seat, row, first + k);
                 if target != 0 {
@@ -332,19 +349,19 @@ impl Rows {
         }
     }
 
-    fn split_by<J: Picks>(&self, seat: &mut RowSeat, refs: &[u32]) -> RowSeat
+    fn split_by<J: MovedRows>(&self, seat: &mut RowSeat, refs: &[u32]) -> RowSeat
         requires rows { J.rows ≡ refs.now }
         requires table { seat.old.table ≡ self.now }
-        requires first { (seat.old.sight.number ≡ 1) × (length seat.old.sight.out < 65536) }
-        requires references { Has refs.now seat.old.sight.refs }
-        ensures seat { (seat.new.table ≡ seat.old.table) × (seat.new.follows ≡ seat.old.follows) × (seat.new.sight ≡ stays refs.now seat.old.sight) }
-        ensures new { (result.table ≡ seat.old.table) × (result.follows ≡ 0) × (result.sight ≡ goes refs.now seat.old.sight) }
+        requires first { (seat.old.view.number ≡ 1) × (length seat.old.view.out < 65536) }
+        requires references { HasRefs refs.now seat.old.view.refs }
+        ensures seat { (seat.new.table ≡ seat.old.table) × (seat.new.follows ≡ seat.old.follows) × (seat.new.view ≡ remaining refs.now seat.old.view) }
+        ensures new { (result.table ≡ seat.old.table) × (result.follows ≡ 0) × (result.view ≡ split_off refs.now seat.old.view) }
     {
         let _ = refs;
-        let mut other = self.table.shared.split_seat::<Cut<J>>(&mut seat.seat);
+        let mut other = self.table.shared.split_seat::<SplitRefs<J>>(&mut seat.seat);
         // What holds of both views is learnt by a load.
-        self.table.shared.load::<Look>(&mut seat.seat, 0);
-        self.table.shared.load::<Look>(&mut other, 0);
+        self.table.shared.load::<Read>(&mut seat.seat, 0);
+        self.table.shared.load::<Read>(&mut other, 0);
         RowSeat {
             seat: other,
             follows: 0,
@@ -354,10 +371,10 @@ impl Rows {
     /// The references of the first seat move to a new seat, whose cap is the number of rows in their trees.
     pub fn split(&self, seat: &mut RowSeat, refs: &[u32]) -> RowSeat
         requires table { seat.old.table ≡ self.now }
-        requires first { (seat.old.sight.number ≡ 1) × (length seat.old.sight.out < 65536) }
-        requires references { Has refs.now seat.old.sight.refs }
-        ensures seat { (seat.new.table ≡ seat.old.table) × (seat.new.follows ≡ seat.old.follows) × (seat.new.sight ≡ stays refs.now seat.old.sight) }
-        ensures new { (result.table ≡ seat.old.table) × (result.follows ≡ 0) × (result.sight ≡ goes refs.now seat.old.sight) }
+        requires first { (seat.old.view.number ≡ 1) × (length seat.old.view.out < 65536) }
+        requires references { HasRefs refs.now seat.old.view.refs }
+        ensures seat { (seat.new.table ≡ seat.old.table) × (seat.new.follows ≡ seat.old.follows) × (seat.new.view ≡ remaining refs.now seat.old.view) }
+        ensures new { (result.table ≡ seat.old.table) × (result.follows ≡ 0) × (result.view ≡ split_off refs.now seat.old.view) }
     {
         self.split_by::<Brand>(seat, refs)
     }
@@ -365,27 +382,27 @@ impl Rows {
     /// All references and owned rows of `other` move to the first seat.
     pub fn join(&self, seat: &mut RowSeat, other: RowSeat)
         requires table { (seat.old.table ≡ self.now) × (other.table ≡ self.now) }
-        requires first { (seat.old.sight.number ≡ 1) × (2 ≤ other.sight.number) }
-        requires room { length (seat.old.sight.refs ++ other.sight.refs) ≤ 2 ^ 32 }
-        ensures same { Still seat.old seat.new }
-        ensures sight { seat.new.sight ≡ both seat.old.sight other.sight }
-        ensures apart { (r : ℕ) (e : Entry) → find r other.sight.owned ≡ some e
-            → (find r seat.old.sight.owned ≡ none) × (find r seat.new.sight.owned ≡ some e) }
+        requires first { (seat.old.view.number ≡ 1) × (2 ≤ other.view.number) }
+        requires room { length (seat.old.view.refs ++ other.view.refs) ≤ 2 ^ 32 }
+        ensures same { OnlyViewChanges seat.old seat.new }
+        ensures view { seat.new.view ≡ joined seat.old.view other.view }
+        ensures apart { (r : ℕ) (e : Entry) → find r other.view.owned ≡ some e
+            → (find r seat.old.view.owned ≡ none) × (find r seat.new.view.owned ≡ some e) }
     {
         let RowSeat {
             seat: taken,
             follows: _,
         } = other;
-        self.table.shared.join_seat::<Both>(&mut seat.seat, taken);
-        self.table.shared.load::<Look>(&mut seat.seat, 0);
+        self.table.shared.join_seat::<JoinViews>(&mut seat.seat, taken);
+        self.table.shared.load::<Read>(&mut seat.seat, 0);
     }
 
     // A word of an owned row that is no counted link, and not the kind.
     pub(crate) fn put(&self, seat: &mut RowSeat, row: u32, word: u32, value: u64)
         requires table { seat.old.table ≡ self.now }
-        requires plain { (e : Entry) × (find row seat.old.sight.owned ≡ some e) × IsPlain e.kind word × (0 < e.kind → word ≢ 1) }
-        ensures same { Still seat.old seat.new }
-        ensures sight { (e : Entry) → find row seat.old.sight.owned ≡ some e → seat.new.sight ≡ with_entry row (written word value e) seat.old.sight }
+        requires plain { (e : Entry) × (find row seat.old.view.owned ≡ some e) × IsContent e.kind word × (0 < e.kind → word ≢ 1) }
+        ensures same { OnlyViewChanges seat.old seat.new }
+        ensures view { (e : Entry) → find row seat.old.view.owned ≡ some e → seat.new.view ≡ with_entry row (written word value e) seat.old.view }
     {
         self.table
             .shared
@@ -395,26 +412,26 @@ impl Rows {
     // A free row becomes an item (1) or a node (2 or 3).
     fn turn(&self, seat: &mut RowSeat, row: u32, kind: u64)
         requires table { seat.old.table ≡ self.now }
-        requires free { (e : Entry) × (find row seat.old.sight.owned ≡ some e) × (e.kind ≡ 0)
-            × ((u : ℕ) → base kind ≤ u → u < base kind + fan kind → find u e.known ≡ some 0) }
-        ensures same { Still seat.old seat.new }
-        ensures sight { (e : Entry) → find row seat.old.sight.owned ≡ some e → seat.new.sight ≡ with_entry row (turned_into kind e) seat.old.sight }
+        requires free { (e : Entry) × (find row seat.old.view.owned ≡ some e) × (e.kind ≡ 0)
+            × ((u : ℕ) → first_link kind ≤ u → u < first_link kind + link_count kind → find u e.known ≡ some 0) }
+        ensures same { OnlyViewChanges seat.old seat.new }
+        ensures view { (e : Entry) → find row seat.old.view.owned ≡ some e → seat.new.view ≡ with_entry row (turned_into kind e) seat.old.view }
     {
         self.table
             .shared
-            .store::<Turn>(&mut seat.seat, row as usize * 80 + 1, kind);
+            .store::<SetKind>(&mut seat.seat, row as usize * 80 + 1, kind);
     }
 
     /// Writes a word of an owned row that is no counted link. Word 1 is written to free rows alone: 1 makes the row an item, 2 or 3 a node, where the words
     /// that become links are known to hold 0.
     pub fn write(&self, seat: &mut RowSeat, row: u32, word: u32, value: u64)
         requires table { seat.old.table ≡ self.now }
-        requires owned { (e : Entry) × (find row seat.old.sight.owned ≡ some e) × IsPlain e.kind word
-            × (word ≡ 1 → (e.kind ≡ 0) × (1 ≤ value) × (value ≤ 3) × ((u : ℕ) → base value ≤ u → u < base value + fan value → find u e.known ≡ some 0)) }
-        ensures same { Still seat.old seat.new }
-        ensures content { word ≢ 1 → (e : Entry) → find row seat.old.sight.owned ≡ some e
-            → seat.new.sight ≡ with_entry row (written word value e) seat.old.sight }
-        ensures kind { word ≡ 1 → (e : Entry) → find row seat.old.sight.owned ≡ some e → seat.new.sight ≡ with_entry row (turned_into value e) seat.old.sight }
+        requires owned { (e : Entry) × (find row seat.old.view.owned ≡ some e) × IsContent e.kind word
+            × (word ≡ 1 → (e.kind ≡ 0) × (1 ≤ value) × (value ≤ 3) × ((u : ℕ) → first_link value ≤ u → u < first_link value + link_count value → find u e.known ≡ some 0)) }
+        ensures same { OnlyViewChanges seat.old seat.new }
+        ensures content { word ≢ 1 → (e : Entry) → find row seat.old.view.owned ≡ some e
+            → seat.new.view ≡ with_entry row (written word value e) seat.old.view }
+        ensures kind { word ≡ 1 → (e : Entry) → find row seat.old.view.owned ≡ some e → seat.new.view ≡ with_entry row (turned_into value e) seat.old.view }
     {
         if word == 1 {
             self.turn(seat, row, value);
@@ -426,10 +443,10 @@ impl Rows {
     // The words that are to be links hold 0.
     fn clear(&self, seat: &mut RowSeat, row: u32)
         requires table { seat.old.table ≡ self.now }
-        requires free { (e : Entry) × (find row seat.old.sight.owned ≡ some e) × (e.kind ≡ 0) }
-        ensures same { Still seat.old seat.new }
-        ensures only { Only row seat.old.sight seat.new.sight }
-        ensures cleared { (e : Entry) → find row seat.old.sight.owned ≡ some e → (d : Entry) × (find row seat.new.sight.owned ≡ some d) × Blank 64 e d }
+        requires free { (e : Entry) × (find row seat.old.view.owned ≡ some e) × (e.kind ≡ 0) }
+        ensures same { OnlyViewChanges seat.old seat.new }
+        ensures only { OnlyEntryChanges row seat.old.view seat.new.view }
+        ensures cleared { (e : Entry) → find row seat.old.view.owned ≡ some e → (d : Entry) × (find row seat.new.view.owned ≡ some d) × HasZeros 64 e d }
     {
         for k in 0..64 {
             self.put(seat, row, 3 + k, 0);
@@ -439,10 +456,10 @@ impl Rows {
     // The same, where the mark says that they may hold something else.
     fn blank(&self, seat: &mut RowSeat, row: u32)
         requires table { seat.old.table ≡ self.now }
-        requires free { (e : Entry) × (find row seat.old.sight.owned ≡ some e) × (e.kind ≡ 0) × Marked e }
-        ensures same { Still seat.old seat.new }
-        ensures only { Only row seat.old.sight seat.new.sight }
-        ensures cleared { (e : Entry) → find row seat.old.sight.owned ≡ some e → (d : Entry) × (find row seat.new.sight.owned ≡ some d) × Blank 64 e d }
+        requires free { (e : Entry) × (find row seat.old.view.owned ≡ some e) × (e.kind ≡ 0) × HasMark e }
+        ensures same { OnlyViewChanges seat.old seat.new }
+        ensures only { OnlyEntryChanges row seat.old.view seat.new.view }
+        ensures cleared { (e : Entry) → find row seat.old.view.owned ≡ some e → (d : Entry) × (find row seat.new.view.owned ≡ some d) × HasZeros 64 e d }
     {
         if self.read(seat, row, 2) != 0 {
             self.clear(seat, row);
@@ -454,10 +471,10 @@ impl Rows {
     pub fn start_node(&self, seat: &mut RowSeat, row: u32, kind: u64)
         requires table { seat.old.table ≡ self.now }
         requires kind { (2 ≤ kind) × (kind ≤ 3) }
-        requires free { (e : Entry) × (find row seat.old.sight.owned ≡ some e) × (e.kind ≡ 0) × Marked e }
-        ensures same { Still seat.old seat.new }
-        ensures only { Only row seat.old.sight seat.new.sight }
-        ensures node { (e : Entry) → find row seat.old.sight.owned ≡ some e → (d : Entry) × (find row seat.new.sight.owned ≡ some d) × NewNode kind e d }
+        requires free { (e : Entry) × (find row seat.old.view.owned ≡ some e) × (e.kind ≡ 0) × HasMark e }
+        ensures same { OnlyViewChanges seat.old seat.new }
+        ensures only { OnlyEntryChanges row seat.old.view seat.new.view }
+        ensures node { (e : Entry) → find row seat.old.view.owned ≡ some e → (d : Entry) × (find row seat.new.view.owned ≡ some d) × IsNewNode kind e d }
     {
         self.blank(seat, row);
         self.turn(seat, row, kind);
@@ -466,16 +483,16 @@ impl Rows {
     /// An owned row goes live. The one reference to it is the seat's, or stays the link of the seat's row that led to it.
     pub fn publish(&self, seat: &mut RowSeat, row: u32)
         requires table { seat.old.table ≡ self.now }
-        requires whole { (e : Entry) × (us : List Tree) × (find row seat.old.sight.owned ≡ some e) × (0 < e.kind) × (e.links ≡ map to us)
+        requires whole { (e : Entry) × (us : List Tree) × (find row seat.old.view.owned ≡ some e) × (0 < e.kind) × (e.links ≡ map to us)
             × ((k : ℕ) (u : Tree) → get_elem? us k ≡ some u → depth u ≤ 3)
-            × ((e.linked ≡ 0) ⊎ ((e.linked ≡ 1) × ((q : ℕ) × (k : ℕ) × (d : Entry) × LinksOwn seat.old.sight row q k d))) }
-        requires room { length seat.old.sight.refs < 2 ^ 32 }
-        ensures same { Still seat.old seat.new }
-        ensures sight { (e : Entry) (us : List Tree) → find row seat.old.sight.owned ≡ some e → e.linked ≡ 0 → e.links ≡ map to us
-            → (t : Tree) × Becomes row e us t × (seat.new.sight ≡ published row t seat.old.sight) }
-        ensures under { (e d : Entry) (us : List Tree) (q k : ℕ) → find row seat.old.sight.owned ≡ some e → e.linked ≡ 1 → e.links ≡ map to us
-            → LinksOwn seat.old.sight row q k d
-            → (t : Tree) × Becomes row e us t × (seat.new.sight ≡ publish_link row t q k d seat.old.sight) }
+            × ((e.linked ≡ 0) ⊎ ((e.linked ≡ 1) × ((q : ℕ) × (k : ℕ) × (d : Entry) × LinksToOwned seat.old.view row q k d))) }
+        requires room { (e : Entry) → find row seat.old.view.owned ≡ some e → e.linked ≡ 0 → length seat.old.view.refs < 2 ^ 32 }
+        ensures same { OnlyViewChanges seat.old seat.new }
+        ensures view { (e : Entry) (us : List Tree) → find row seat.old.view.owned ≡ some e → e.linked ≡ 0 → e.links ≡ map to us
+            → (t : Tree) × Becomes row e us t × (seat.new.view ≡ published row t seat.old.view) }
+        ensures through_link { (e d : Entry) (us : List Tree) (q k : ℕ) → find row seat.old.view.owned ≡ some e → e.linked ≡ 1 → e.links ≡ map to us
+            → LinksToOwned seat.old.view row q k d
+            → (t : Tree) × Becomes row e us t × (seat.new.view ≡ published_by_link row t q k d seat.old.view) }
     {
         self.table
             .shared
@@ -485,8 +502,8 @@ impl Rows {
     /// Ends the pool.
     pub fn close(self, seat: RowSeat, chain: Chain)
         requires table { seat.table ≡ self }
-        requires first { (seat.sight.number ≡ 1) × (seat.sight.out ≡ []) }
-        requires all { (rs : List ℕ) × OnChain seat.sight chain rs × (length rs ≡ seat.sight.size) }
+        requires first { (seat.view.number ≡ 1) × (seat.view.out ≡ []) }
+        requires all { (rs : List ℕ) × IsChain seat.view chain rs × (length rs ≡ seat.view.size) }
     {
         let Rows { table } = self;
         let RowSeat { seat, follows: _ } = seat;

@@ -1,0 +1,196 @@
+-- What the calls do to a seat that has references and one chain alone.
+use Rattle.std.proofs.Common.{◌≡◌, ◌≢◌, ◌⊎◌, ℕ, suc, true, true≢false, ◌<◌, ◌≤◌, List, [], ◌∷◌, ◌++◌, length, slice_index, sym, refl, ap, ◌∙◌, inl, inr}
+use Rattle.std.proofs.Common.{⊎_elim, arith}
+use mathlib.Core.Option.{none, some, some-ne-none}
+use lib.ListN.{get_elem?}
+use Rattle.std.proofs.lemmas.Bool.Decides.{eqb_tells}
+use Rattle.atomic_table.specs.Seated.{TableId}
+use Rattle.row_pool.specs.Lists.{find, mem}
+use Rattle.row_pool.specs.Trees.{Tree, Entry, tree_word, words_of, children, depth}
+use Rattle.row_pool.specs.SeatView.{SeatView}
+use Rattle.row_pool.specs.Changes.{tree_of, without_tree, with_ref, entry_of, own_row, published, fresh, with_entry, put, joined}
+use Rattle.row_pool.specs.Changes.{remaining, split_off}
+use Rattle.row_pool.specs.Views.{ViewInvariant, Reaches, by_ref}
+use Rattle.row_pool.specs.SeatState.{SeatState, SameSeat, OnlyEntriesChange}
+use Rattle.row_pool.specs.Chains.{IsChain, ChainGrows, SplitAt, Disjoint}
+use Rattle.row_pool.specs.TestSeats.{Holding, HoldsRow}
+use Rattle.row_pool.specs.declared.chain.Chain.{Chain}
+use Rattle.row_pool.proofs.Sums.{find-else, find-without}
+use Rattle.row_pool.proofs.Seats.{same_or, find-put}
+use Rattle.row_pool.proofs.Laws.{depth-below}
+use Rattle.row_pool.proofs.FirstState.{free-at}
+use Rattle.row_pool.proofs.NewestRef.{tree-first, take-first}
+use Rattle.row_pool.proofs.DistinctKeys.{once-first}
+use Rattle.row_pool.proofs.Chains.{mem-or, mem-head, mem-left, mem-right, chain-on, strung-free, strung-apart}
+
+pub first-up : (v : SeatView) (t : Tree) (ts : List Tree) → v.refs ≡ t ∷ ts → Reaches v t
+first-up v t ts h = by_ref 0 (ap (λ ts. get_elem? ts 0) h)
+
+pub first-named : (v : SeatView) (t : Tree) (ts : List Tree) (r : ℕ) → v.refs ≡ t ∷ ts → tree_word t ≡ suc r → tree_word (tree_of r v.refs) ≡ suc r
+first-named v t ts r h is = ap (λ ts. tree_word (tree_of r ts)) h ∙ ap tree_word (tree-first r t ts is) ∙ is
+
+pub stand-held : (p : TableId) (s n : SeatState) (c : Chain) (t : Tree) (ts : List Tree) (rs : List ℕ) → Holding p s c (t ∷ ts) rs → n.table ≡ s.table
+    → n.view ≡ with_ref t s.view → Holding p n c (t ∷ t ∷ ts) rs
+stand-held p s n c t ts rs h table move = record {
+  table = table ∙ h.table;
+  refs = ap (λ (v : SeatView). v.refs) move ∙ ap (λ ts. t ∷ ts) h.refs;
+  chain = chain-on s.view n.view c rs (λ q _. ap (λ (v : SeatView). find q v.owned) move) h.chain;
+  all = λ q e f. h.all q e (sym (ap (λ (v : SeatView). find q v.owned) move) ∙ f);
+}
+
+pub stand-dropped : (p : TableId) (s n : SeatState) (c d : Chain) (r : ℕ) (t : Tree) (ts : List Tree) (rs : List ℕ) → tree_word t ≡ suc r → Holding p s c (t ∷ ts) rs
+    → n.table ≡ s.table → n.view.refs ≡ without_tree r s.view.refs → ChainGrows s.view n.view c d
+    → (us : List ℕ) × Holding p n d ts us
+stand-dropped p s n c d r t ts rs is h table refs g = (
+  g.more ++ rs,
+  record {
+    table = table ∙ h.table;
+    refs = refs ∙ ap (without_tree r) h.refs ∙ take-first r t ts is;
+    chain = g.chain rs h.chain;
+    all = λ q e f. ⊎_elim (λ m. mem-left q g.more rs m) (λ m. mem-right q g.more rs (h.all q e (sym (g.owns_more.same q m) ∙ f))) (mem-or q g.more);
+  },
+)
+
+-- a row came out of the chain, and went live
+pub stand-turned : (p : TableId) (s n : SeatState) (c d : Chain) (r : ℕ) (ts us : List Tree) (rs : List ℕ) → Holding p s c ts (r ∷ rs) → IsChain s.view d rs
+    → n.table ≡ s.table → n.view.refs ≡ us
+    → ((q : ℕ) → q ≢ r → find q n.view.owned ≡ find q s.view.owned) → find r n.view.owned ≡ none → Holding p n d us rs
+stand-turned p s n c d r ts us rs h on table refs others gone = record {
+  table = table ∙ h.table;
+  refs = refs;
+  chain = chain-on s.view n.view d rs (λ q m. others q (λ z. true≢false (sym m ∙ ap (λ q. mem q rs) z ∙ strung-apart s.view r rs c.head h.chain.linked_from))) on;
+  all = λ q e f. ⊎_elim (λ (z : q ≡ r). absurd (some-ne-none e (sym f ∙ ap (λ q. find q n.view.owned) z ∙ gone)))
+      (λ ne. ⊎_elim (λ z. absurd (ne (sym z))) (λ o. o.1) (mem-head q r rs (h.all q e (sym (others q ne) ∙ f)))) (same_or q r);
+}
+
+pub stand-made : (p : TableId) (s n : SeatState) (c d : Chain) (r : ℕ) (t : Tree) (ts : List Tree) (rs : List ℕ) → Holding p s c ts (r ∷ rs) → IsChain s.view d rs
+    → n.table ≡ s.table → n.view.refs ≡ t ∷ s.view.refs
+    → ((q : ℕ) → q ≢ r → find q n.view.owned ≡ find q s.view.owned) → find r n.view.owned ≡ none → Holding p n d (t ∷ ts) rs
+stand-made p s n c d r t ts rs h on table refs others gone = stand-turned p s n c d r ts (t ∷ ts) rs h on table (refs ∙ ap (λ ts. t ∷ ts) h.refs) others gone
+
+-- a row was popped, turned and published
+pub made : (v w x y : SeatView) (r : ℕ) (e : Entry) (t : Tree) → w ≡ v → x ≡ with_entry r e w → y ≡ published r t x
+    → (y.refs ≡ t ∷ v.refs) × ((q : ℕ) → q ≢ r → find q y.owned ≡ find q v.owned) × (find r y.owned ≡ none) × SameSeat v y
+made v w x y r e t a b d =
+    let all : y ≡ published r t (with_entry r e v) = d ∙ ap (published r t) (b ∙ ap (with_entry r e) a) in (
+      ap (λ (v : SeatView). v.refs) all,
+      λ q n. ap (λ (v : SeatView). find q v.owned) all ∙ find-else q r (put r e v.owned) n ∙ sym (find-put q r e v.owned n),
+      ap (λ (v : SeatView). find r v.owned) all ∙ find-without r (put r e v.owned),
+      record { number = ap (λ (v : SeatView). v.number) all; out = ap (λ (v : SeatView). v.out) all; size = ap (λ (v : SeatView). v.size) all },
+    )
+
+pub split-first : (rs : List ℕ) → 1 ≤ length rs → (r : ℕ) × (us : List ℕ) × (rs ≡ r ∷ us)
+split-first [] h = absurd (omega arith)
+split-first (r ∷ us) h = (r, us, refl)
+
+-- a live row that is owned can go live again
+pub own-whole : (v : SeatView) (t : Tree) → ViewInvariant v → Reaches v t → 0 < tree_word t
+    → (0 < slice_index (words_of t) 1) × ((k : ℕ) (u : Tree) → get_elem? (children t) k ≡ some u → depth u ≤ 3)
+own-whole v t h up some_row = let s = h.trees t up some_row in let low = s.shallow in (s.some_kind, λ k u e. let a = depth-below t u k e in omega arith)
+
+-- a row that was referred to goes live again
+pub stand-again : (p : TableId) (s n : SeatState) (c : Chain) (r : ℕ) (t u : Tree) (ts : List Tree) (rs : List ℕ) → tree_word t ≡ suc r → find r s.view.owned ≡ none
+    → Holding p s c (t ∷ ts) rs → n.table ≡ s.table
+    → n.view ≡ published r u (own_row t r 1 s.view) → Holding p n c (u ∷ ts) rs
+stand-again p s n c r t u ts rs is away h table move =
+    let same : (q : ℕ) → find q n.view.owned ≡ find q s.view.owned = λ q. ap (λ (v : SeatView). find q v.owned) move ∙
+    ⊎_elim (λ (z : q ≡ r). ap (λ q. find q (published r u (own_row t r 1 s.view)).owned) z ∙ find-without r (own_row t r 1 s.view).owned ∙ sym away
+    ∙ ap (λ q. find q s.view.owned) (sym z))
+    (λ ne. find-else q r (own_row t r 1 s.view).owned ne ∙ sym (find-put q r (entry_of t 1 0) s.view.owned ne)) (same_or q r) in
+    record {
+      table = table ∙ h.table;
+      refs = ap (λ (v : SeatView). v.refs) move ∙ ap (λ ts. u ∷ without_tree r ts) h.refs ∙ ap (λ ts. u ∷ ts) (take-first r t ts is);
+      chain = chain-on s.view n.view c rs (λ q _. same q) h.chain;
+      all = λ q e f. h.all q e (sym (same q) ∙ f);
+    }
+
+pub stand-same : (p : TableId) (s n : SeatState) (c : Chain) (ts : List Tree) (rs : List ℕ) → Holding p s c ts rs → n.table ≡ s.table → n.view ≡ s.view
+    → Holding p n c ts rs
+stand-same p s n c ts rs h table move = record {
+  table = table ∙ h.table;
+  refs = ap (λ (v : SeatView). v.refs) move ∙ h.refs;
+  chain = chain-on s.view n.view c rs (λ q _. ap (λ (v : SeatView). find q v.owned) move) h.chain;
+  all = λ q e f. h.all q e (sym (ap (λ (v : SeatView). find q v.owned) move) ∙ f);
+}
+
+-- some rows were taken and given back
+pub stand-given : (p : TableId) (s m n : SeatState) (c d : Chain) (ts : List Tree) (rs ps qs : List ℕ) (k : ℕ) → Holding p s c ts rs → SplitAt rs ps qs k
+    → m.table ≡ s.table → n.table ≡ m.table
+    → OnlyEntriesChange ps s.view m.view → OnlyEntriesChange ps m.view n.view → IsChain n.view d (ps ++ qs) → Holding p n d ts (ps ++ qs)
+stand-given p s m n c d ts rs ps qs k h parts table table' a b on = record {
+  table = table' ∙ table ∙ h.table;
+  refs = b.refs ∙ a.refs ∙ h.refs;
+  chain = on;
+  all = λ q e f. ⊎_elim (λ i. mem-left q ps qs i) (λ o. ap (mem q) (sym parts.whole) ∙ h.all q e (sym (a.others q o) ∙ sym (b.others q o) ∙ f)) (mem-or q ps);
+}
+
+-- a seat without references was joined, and its chain given
+pub stand-joined : (p : TableId) (s o m n : SeatState) (c e d : Chain) (ts : List Tree) (rs us : List ℕ) → Holding p s c ts rs → Holding p o e [] us
+    → m.table ≡ s.table → n.table ≡ m.table → m.view ≡ joined s.view o.view
+    → OnlyEntriesChange us m.view n.view → IsChain n.view d (us ++ rs) → Holding p n d ts (us ++ rs)
+stand-joined p s o m n c e d ts rs us h g table table' move a on = record {
+  table = table' ∙ table ∙ h.table;
+  refs = a.refs ∙ ap (λ (v : SeatView). v.refs) move ∙ (λ i. h.refs i ++ g.refs i) ∙ append-nil ts;
+  chain = on;
+  all = λ q x f. ⊎_elim (λ i. mem-left q us rs i)
+      (λ out. mem-right q us rs (⊎_elim (λ y. h.all q y.0 y.1) (λ y. absurd (true≢false (sym (g.all q y.0 y.1) ∙ out)))
+      (either q s.view.owned o.view.owned x (sym (ap (λ (v : SeatView). find q v.owned) move) ∙ sym (a.others q out) ∙ f)))) (mem-or q us);
+}
+  where
+    append-nil : (ts : List Tree) → ts ++ [] ≡ ts
+    append-nil [] = refl
+    append-nil (t ∷ ts) = ap (λ l. t ∷ l) (append-nil ts)
+
+    either : (q : ℕ) (ps qs : List (ℕ × Entry)) (x : Entry) → find q (ps ++ qs) ≡ some x
+        → ((y : Entry) × (find q ps ≡ some y)) ⊎ ((y : Entry) × (find q qs ≡ some y))
+    either q [] qs x f = inr (x, f)
+    either q (p ∷ ps) qs x f = ⊎_elim (λ t. inl (p.1, rw t.0 refl)) (λ t. ⊎_elim (λ y. inl (y.0, rw t.0 y.1)) (λ y. inr y) (either q ps qs x (rw t.0 at f)))
+        (eqb_tells p.0 q)
+
+-- the rows of two seats that are joined are apart
+pub rows-apart : (v w : SeatView) (c e : Chain) (rs us : List ℕ) → IsChain v c rs → IsChain w e us
+    → ((r : ℕ) (d : Entry) → find r w.owned ≡ some d → find r v.owned ≡ none) → Disjoint us rs
+rows-apart v w c e rs us h g apart = λ q i. ⊎_elim (λ m. let o = strung-free v rs c.head q h.linked_from m in let u = strung-free w us e.head q g.linked_from i in
+    absurd (some-ne-none o.0 (sym o.1 ∙ apart q u.0 u.1))) (λ o. o) (mem-or q rs)
+
+-- a chain of the first seat's after a join, and one of the other's
+pub chain-first : (v w : SeatView) (c : Chain) (rs : List ℕ) → IsChain v c rs → IsChain (joined v w) c rs
+chain-first v w c rs h = chain-on v (joined v w) c rs (λ q m. let o = strung-free v rs c.head q h.linked_from m in once-first q v.owned w.owned o.0 o.1 ∙ sym o.1) h
+
+pub chain-second : (v w n : SeatView) (c : Chain) (us : List ℕ) → IsChain w c us → ((r : ℕ) (d : Entry) → find r w.owned ≡ some d → find r n.owned ≡ some d)
+    → IsChain n c us
+chain-second v w n c us h there = chain-on w n c us (λ q m. let o = strung-free w us c.head q h.linked_from m in there q o.0 o.1 ∙ sym o.1) h
+
+-- a fresh pool
+pub stand-fresh : (p : TableId) (s : SeatState) (c : Chain) (n : ℕ) (rs : List ℕ) → s.table ≡ p → s.view ≡ fresh n → IsChain (fresh n) c rs
+    → ((q : ℕ) → q < n → mem q rs ≡ true) → Holding p s c [] rs
+stand-fresh p s c n rs table move on all = record {
+  table = table;
+  refs = ap (λ (v : SeatView). v.refs) move;
+  chain = chain-on (fresh n) s.view c rs (λ q _. ap (λ (v : SeatView). find q v.owned) move) on;
+  all = λ q e f. let o = free-at n 0 n q e (sym (ap (λ (v : SeatView). find q v.owned) move) ∙ f) in all q (let a = o.1 in omega arith);
+}
+
+-- a reference went to a new seat
+pub stand-split : (p : TableId) (s n : SeatState) (c : Chain) (r : ℕ) (t : Tree) (ts : List Tree) (rs : List ℕ) → tree_word t ≡ suc r → Holding p s c (t ∷ ts) rs
+    → n.table ≡ s.table → n.view ≡ remaining (r ∷ []) s.view → Holding p n c ts rs
+stand-split p s n c r t ts rs is h table move = record {
+  table = table ∙ h.table;
+  refs = ap (λ (v : SeatView). v.refs) move ∙ ap (without_tree r) h.refs ∙ take-first r t ts is;
+  chain = chain-on s.view n.view c rs (λ q _. ap (λ (v : SeatView). find q v.owned) move) h.chain;
+  all = λ q e f. h.all q e (sym (ap (λ (v : SeatView). find q v.owned) move) ∙ f);
+}
+
+pub held-split : (p : TableId) (s n : SeatState) (c d : Chain) (r : ℕ) (t : Tree) (ts : List Tree) (rs : List ℕ) → tree_word t ≡ suc r → Holding p s c (t ∷ ts) rs
+    → n.table ≡ s.table → n.view ≡ split_off (r ∷ []) s.view → IsChain n.view d [] → HoldsRow p r (n, d)
+held-split p s n c d r t ts rs is h table move on = record {
+  tree = t;
+  rows = [];
+  stand = record {
+    table = table ∙ h.table;
+    refs = ap (λ (v : SeatView). v.refs) move ∙ ap (λ ts. tree_of r ts ∷ []) h.refs ∙ ap (λ t. t ∷ []) (tree-first r t ts is);
+    chain = on;
+    all = λ q e f. absurd (some-ne-none e (sym f ∙ ap (λ (v : SeatView). find q v.owned) move));
+  };
+  is = is;
+}
