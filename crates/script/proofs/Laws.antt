@@ -12,4 +12,5 @@ pub mod Commands
 pub mod Printed
 pub mod Parts
 pub mod Walk
+pub mod Sizes
 pub mod Scripts

@@ -11,3 +11,4 @@ pub mod Noted
 pub mod Laws
 pub mod Walked
 pub mod Spelled
+pub mod Examples

@@ -10,6 +10,7 @@ use Rattle.script.specs.Views.{more_at}
 use Rattle.script.specs.Reading.{lines, at_line, ok_unless, next_at, end_at, commands_at, all_at, script_at, nothing_more}
 use Rattle.script.specs.Outcomes.{FieldFails, ScriptFails, IsAtLine}
 use Rattle.script.specs.declared.command.Command.{Command}
+use Rattle.script.specs.declared.limits.TheConstants.{TEXT_LIMIT}
 use Rattle.script.specs.declared.fault.FieldFault.{FieldFault}
 use Rattle.script.specs.declared.fault.FieldFault.TheVariants as faults
 use Rattle.script.specs.declared.fault.ReadScript.{ReadScript}
@@ -124,15 +125,15 @@ no_line cs n rest total e so_far = sym so_far ∙ ap (commands_at cs n) e ∙ no
 
 -- ---- the first line
 
-pub all_is : (b : List ℕ) → length b ≤ 4194304 → script_at b ≡ all_at (lines b)
+pub all_is : (b : List ℕ) → length b ≤ TEXT_LIMIT → script_at b ≡ all_at (lines b)
 unfolding script_at
-all_is b short = let fits : ltb 4194304 (length b) ≡ false = le-ltb 4194304 (length b) short in rw fits refl
+all_is b short = let fits : ltb TEXT_LIMIT (length b) ≡ false = le-ltb TEXT_LIMIT (length b) short in rw fits refl
 
-pub none_first : (b : List ℕ) → length b ≤ 4194304 → lines b ≡ b ∷ [] → script_at b ≡ Err (1, 1)
+pub none_first : (b : List ℕ) → length b ≤ TEXT_LIMIT → lines b ≡ b ∷ [] → script_at b ≡ Err (1, 1)
 none_first b short e = all_is b short ∙ ap all_at e ∙ first_none b
 
-pub other_first : (b line after : List ℕ) → length b ≤ 4194304 → lines b ≡ line ∷ lines after → bytes_eq line (codes "latch script 1") ≡ false → script_at b ≡ Err (1, 2)
+pub other_first : (b line after : List ℕ) → length b ≤ TEXT_LIMIT → lines b ≡ line ∷ lines after → bytes_eq line (codes "latch script 1") ≡ false → script_at b ≡ Err (1, 2)
 other_first b line after short e differs = all_is b short ∙ ap all_at e ∙ first_step line after ∙ rw differs refl
 
-pub is_first : (b line after : List ℕ) → length b ≤ 4194304 → lines b ≡ line ∷ lines after → bytes_eq line (codes "latch script 1") ≡ true → script_at b ≡ commands_at [] 2 (lines after)
+pub is_first : (b line after : List ℕ) → length b ≤ TEXT_LIMIT → lines b ≡ line ∷ lines after → bytes_eq line (codes "latch script 1") ≡ true → script_at b ≡ commands_at [] 2 (lines after)
 is_first b line after short e same = all_is b short ∙ ap all_at e ∙ first_step line after ∙ rw same refl

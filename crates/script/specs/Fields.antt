@@ -14,6 +14,7 @@ use Rattle.latch_model.specs.declared.latch.Latch.{Latch}
 use Rattle.latch_model.specs.declared.latch.Policy.{Policy}
 use Rattle.latch_model.specs.declared.latch.Policy.TheVariants.{Wait as policy_wait, Error}
 use Rattle.script.specs.Scripts.{is_name}
+use Rattle.script.specs.declared.limits.TheConstants.{KEY_LIMIT}
 
 -- Steps that may find nothing, one after the other.
 infixl 10 ◌>>?◌
@@ -97,9 +98,9 @@ place_at text =
 unfoldable pub access_at : List ℕ → Option Access
 access_at text = if begins (codes "r:") text then Some Read else (if begins (codes "w:") text then Some Write else None)
 
--- whether the key or the end has more than 256 bytes
+-- whether the key or the end is too long for a script
 abbrev pub is_long : Pair → Bool
-is_long span = nat_lt 256 (length span.0) || nat_lt 256 (length span.1)
+is_long span = nat_lt KEY_LIMIT (length span.0) || nat_lt KEY_LIMIT (length span.1)
 
 -- whether there is an end, and it is not greater than the key
 abbrev pub is_reversed : Pair → Bool

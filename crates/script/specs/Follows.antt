@@ -1,10 +1,10 @@
--- What a session's entries in a history must be: its commands fall into blocks, each from an opening through its release, and each block
--- makes one begin and one end.
+-- When a history follows a script: the commands of each session fall into blocks, each from an opening through its release, and each block
+-- makes one begin and one end, in the order of the blocks.
 use Rattle.std.specs.Prelude.{◌≡◌, ℕ, ◌+◌, Bool, true, false, not, ◌==◌, ◌&&◌, if◌then◌else◌, IsTrue, List, [], ◌∷◌, Option, Some, None}
 use Rattle.std.specs.Bool.{MatchBool}
-use Rattle.std.specs.List.{enumerate_from, filter, list_all, list_any, take_while}
+use Rattle.std.specs.List.{All, enumerate_from, filter, list_all, list_any, take_while}
 use Rattle.latch_model.specs.Declaration.{Declaration}
-use Rattle.latch_model.specs.Histories.{HeldLatch, in_front, latches_held, latches_of}
+use Rattle.latch_model.specs.Histories.{Begin as BeginEntry, HeldLatch, in_front, latches_held}
 use Rattle.latch_model.specs.Latches.{conflict, lies_in_latch}
 use Rattle.latch_model.specs.declared.history.Cause.{Cause}
 use Rattle.latch_model.specs.declared.history.Cause.TheVariants.{None as no_cause, Called, From}
@@ -54,12 +54,12 @@ with_command n (Poison name) rest = (Poison name ∷ rest.0, rest.1)
 with_command n (Release name) rest = (Release name ∷ rest.0, rest.1)
 with_command n Metrics rest = (Metrics ∷ rest.0, rest.1)
 
-abbrev pub cut : List (ℕ × Command) → List Command × List Block
-cut [] = ([], [])
-cut (p ∷ ps) = with_command p.0 p.1 (cut ps)
+abbrev pub in_blocks : List (ℕ × Command) → List Command × List Block
+in_blocks [] = ([], [])
+in_blocks (p ∷ ps) = with_command p.0 p.1 (in_blocks ps)
 
 abbrev pub blocks_of : List Command → ℕ → List Block
-blocks_of cs w = (cut (commands_of cs w)).1
+blocks_of cs w = (in_blocks (commands_of cs w)).1
 
 abbrev pub is_wait : Command → Bool
 is_wait (Begin session name mode policy turns latches) = false
@@ -77,64 +77,84 @@ is_poison (Poison name) = true
 is_poison (Release name) = false
 is_poison Metrics = false
 
--- whether a block has a poisoning, and whether one stands in front of its first wait
+-- whether a block has a `wait`, whether it has a `poison`, and whether a `poison` stands in front of its first `wait`
+abbrev pub has_wait : Block → Bool
+has_wait b = list_any is_wait b.more
+
 abbrev pub is_called : Block → Bool
 is_called b = list_any is_poison b.more
 
 abbrev pub is_early : Block → Bool
 is_early b = list_any is_poison (take_while (λ c. not (is_wait c)) b.more)
 
--- The check that stands as passed: one that asks for a latch that lies in no declared one changes nothing; one that meets a latch held
--- in front of the begin leaves none; every other stands.
+-- What the checks of a block passed. It begins as nothing and goes through the checks in their order: one that asks for a latch that
+-- lies in no declared one changes nothing; one that asks for a latch in conflict with one that was held in front of the begin leaves
+-- nothing; every other leaves the asked latches.
 abbrev pub passed_check : List Latch → List HeldLatch → List Latch → Option (List Latch) → Option (List Latch)
-passed_check declared met asked before =
+passed_check declared held asked before =
     if list_all (λ l. list_any (lies_in_latch l) declared) asked
-    then (if list_any (λ l. list_any (λ (x : HeldLatch). conflict l x.latch) met) asked then None else Some asked)
+    then (if list_any (λ l. list_any (λ (x : HeldLatch). conflict l x.latch) held) asked then None else Some asked)
     else before
 
-abbrev pub after_command : List Latch → List HeldLatch → Command → Option (List Latch) → Option (List Latch)
-after_command declared met (Begin session name mode policy turns latches) before = before
-after_command declared met (Wait name) before = before
-after_command declared met (Check name asked) before = passed_check declared met asked before
-after_command declared met (Poison name) before = before
-after_command declared met (Release name) before = before
-after_command declared met Metrics before = before
+abbrev pub passed_behind : List Latch → List HeldLatch → Command → Option (List Latch) → Option (List Latch)
+passed_behind declared held (Begin session name mode policy turns latches) before = before
+passed_behind declared held (Wait name) before = before
+passed_behind declared held (Check name asked) before = passed_check declared held asked before
+passed_behind declared held (Poison name) before = before
+passed_behind declared held (Release name) before = before
+passed_behind declared held Metrics before = before
 
 abbrev pub passed_from : List Latch → List HeldLatch → Option (List Latch) → List Command → Option (List Latch)
-passed_from declared met before [] = before
-passed_from declared met before (c ∷ cs) = passed_from declared met (after_command declared met c before) cs
+passed_from declared held before [] = before
+passed_from declared held before (c ∷ cs) = passed_from declared held (passed_behind declared held c before) cs
 
--- the passed check of a block whose request is number id of the history
+-- In the history h, where request k was begun by the block.
 abbrev pub passed_in : List Entry → ℕ → Block → Option (List Latch)
-passed_in h id b = passed_from b.latches (latches_held (in_front h id)) None b.more
+passed_in h k b = passed_from b.latches (latches_held (in_front h k)) None b.more
 
--- Which cause may stand behind a grant, where the request may have been poisoned by a call; and behind a cancelled wait, or the grant of
--- a look, which nothing but another request poisons.
-abbrev pub CauseIfCalled : Bool → Cause → Type 0
-CauseIfCalled called no_cause = called ≡ false
-CauseIfCalled called Called = called ≡ true
-CauseIfCalled called (From p) = Unit {0}
+-- The end of a request: its number, how its latches were granted, why it was poisoned, and what failed.
+pub record EndEntry : Type 0 where
+  pub id : ℕ
+  pub grant : Grant
+  pub cause : Cause
+  pub fault : Fault
 
-abbrev pub CauseFromOthers : Cause → Type 0
-CauseFromOthers no_cause = Unit {0}
-CauseFromOthers Called = ⊥
-CauseFromOthers (From p) = Unit {0}
-
--- The ends of a request that waited: it was granted, failed by a poison, or was cancelled at its last turn.
+-- The three ways in which a request that waited may end, each with the causes that it may have: it was granted; it failed, for it met a
+-- latch of a poisoned request; or it was cancelled at the last of its turns, of which it had a number.
 abbrev pub WaitEnds : Option ℕ → (Cause → Type 0) → (Cause → Type 0) → (Cause → Type 0) → Grant → Fault → Cause → Type 0
-WaitEnds turns granted failed cancelled (Waited front) no_fault cause = granted cause
+WaitEnds turns granted failed cancelled (Waited n) no_fault cause = granted cause
 WaitEnds turns granted failed cancelled Never (Poisoned p) cause = failed cause
 WaitEnds turns granted failed cancelled Never (Cancelled n) cause = (turns ≡ Some n) × cancelled cause
 WaitEnds turns granted failed cancelled Never no_fault cause = ⊥
-WaitEnds turns granted failed cancelled (Waited front) (Poisoned p) cause = ⊥
-WaitEnds turns granted failed cancelled (Waited front) (Cancelled n) cause = ⊥
+WaitEnds turns granted failed cancelled (Waited n) (Poisoned p) cause = ⊥
+WaitEnds turns granted failed cancelled (Waited n) (Cancelled m) cause = ⊥
 WaitEnds turns granted failed cancelled (Checked asked) fault cause = ⊥
 
+-- The causes: none; the block's own `poison`; another request, or none; another request or else, exactly where the block has a
+-- `poison`, that one.
+abbrev pub NoCause : Cause → Type 0
+NoCause cause = cause ≡ no_cause
+
+abbrev pub OwnCause : Cause → Type 0
+OwnCause cause = cause ≡ Called
+
+abbrev pub CauseOfAnother : Cause → Type 0
+CauseOfAnother no_cause = Unit {0}
+CauseOfAnother Called = ⊥
+CauseOfAnother (From p) = Unit {0}
+
+abbrev pub AnyCause : Bool → Cause → Type 0
+AnyCause called no_cause = called ≡ false
+AnyCause called Called = called ≡ true
+AnyCause called (From p) = Unit {0}
+
+-- How the request of an `acquire` ends, of a `look`, and of an `optimistic`. Without a `wait` the last ends by what its checks passed; with
+-- one it ends as that of an `acquire`, but that a `poison` in front of the first `wait` is its cause in any case.
 abbrev pub AcquireEnds : Block → Grant → Fault → Cause → Type 0
-AcquireEnds b grant fault cause = WaitEnds b.turns (CauseIfCalled (is_called b)) (λ c. c ≡ no_cause) CauseFromOthers grant fault cause
+AcquireEnds b = WaitEnds b.turns (AnyCause (is_called b)) NoCause CauseOfAnother
 
 abbrev pub LookEnds : Block → Grant → Fault → Cause → Type 0
-LookEnds b grant fault cause = WaitEnds b.turns CauseFromOthers (λ c. c ≡ no_cause) CauseFromOthers grant fault cause
+LookEnds b = WaitEnds b.turns CauseOfAnother NoCause CauseOfAnother
 
 abbrev pub passed_grant : Option (List Latch) → Grant
 passed_grant None = Never
@@ -144,37 +164,67 @@ abbrev pub called_cause : Bool → Cause
 called_cause true = Called
 called_cause false = no_cause
 
--- An optimistic request that never waited ends by its passed check. One that waited ends like an acquired one, and one that was poisoned
--- before it waited has that cause.
-abbrev pub OptimisticEnds : List Entry → ℕ → Block → Grant → Fault → Cause → Type 0
-OptimisticEnds h id b grant fault cause =
-    MatchBool (list_any is_wait b.more)
-    (MatchBool (is_early b)
-    (WaitEnds b.turns (λ c. c ≡ Called) (λ c. c ≡ Called) (λ c. c ≡ Called) grant fault cause)
-    (AcquireEnds b grant fault cause))
-    ((grant ≡ passed_grant (passed_in h id b)) × (fault ≡ no_fault) × (cause ≡ called_cause (is_called b)))
+abbrev pub OptimisticEnds : Block → Option (List Latch) → Grant → Fault → Cause → Type 0
+OptimisticEnds b passed grant fault cause =
+    MatchBool (has_wait b)
+    (MatchBool (is_early b) (WaitEnds b.turns OwnCause OwnCause OwnCause grant fault cause) (AcquireEnds b grant fault cause))
+    ((grant ≡ passed_grant passed) × (fault ≡ no_fault) × (cause ≡ called_cause (is_called b)))
 
-abbrev pub Ends : Mode → List Entry → ℕ → Block → Grant → Fault → Cause → Type 0
-Ends Acquire h id b grant fault cause = AcquireEnds b grant fault cause
-Ends Optimistic h id b grant fault cause = OptimisticEnds h id b grant fault cause
-Ends Look h id b grant fault cause = LookEnds b grant fault cause
+abbrev pub EndsAs : Mode → Block → Option (List Latch) → Grant → Fault → Cause → Type 0
+EndsAs Acquire b passed = AcquireEnds b
+EndsAs Optimistic b passed = OptimisticEnds b passed
+EndsAs Look b passed = LookEnds b
 
--- what a block declares
+-- what the request of a block declares
 abbrev pub declaration_of : Block → Declaration
 declaration_of b = record { tag = b.line; policy = b.policy; latches = b.latches }
 
--- Entries are those of blocks in the history h: block by block a begin, and then an end of the same request.
-abbrev pub FollowBlocks : List Entry → List Entry → List Block → Type 0
-FollowBlocks h [] [] = Unit {0}
-FollowBlocks h (Begun id lane who mode request ∷ Ended ended session grant cause fault ∷ es) (b ∷ bs) =
-    (ended ≡ id) × (mode ≡ b.mode) × (request ≡ declaration_of b) × Ends b.mode h id b grant fault cause × FollowBlocks h es bs
-FollowBlocks h es bs = ⊥
+-- One block, what its checks passed, and the begin and the end that it made.
+pub record MadeBy (b : Block) (passed : Option (List Latch)) (begun : BeginEntry) (ended : EndEntry) : Type 0 where
+  pub mode : begun.mode ≡ b.mode
+  pub declared : begun.request ≡ declaration_of b
+  pub same_request : ended.id ≡ begun.id
+  pub ends : EndsAs b.mode b passed ended.grant ended.fault ended.cause
 
--- whether an entry is one of a session
-abbrev pub entry_of : ℕ → Entry → Bool
-entry_of w (Begun id lane who mode request) = who == w
-entry_of w (Ended id who grant cause fault) = who == w
+-- All blocks of a session and its entries: a begin and an end of each block, block by block, and nothing else. What the checks of a block
+-- passed is told by the number of its request.
+abbrev pub AllMadeBy : (ℕ → Block → Option (List Latch)) → List Block → List Entry → Type 0
+AllMadeBy passed [] [] = Unit {0}
+AllMadeBy passed (b ∷ bs) (Begun id lane who mode request ∷ Ended k session grant cause fault ∷ es) =
+    MadeBy b (passed id b) (record { id = id; lane = lane; who = who; mode = mode; request = request })
+    (record { id = k; grant = grant; cause = cause; fault = fault })
+    × AllMadeBy passed bs es
+AllMadeBy passed bs es = ⊥
+
+-- the session of an entry, and the entries of a session
+abbrev pub session_of : Entry → ℕ
+session_of (Begun id lane who mode request) = who
+session_of (Ended id who grant cause fault) = who
+
+abbrev pub entries_of : ℕ → List Entry → List Entry
+entries_of w h = filter (λ e. session_of e == w) h
 
 -- The entries of session w in the history follow the commands of the session.
 abbrev pub Follows : List Entry → ℕ → List Command → Type 0
-Follows h w cs = FollowBlocks h (filter (entry_of w) h) (blocks_of cs w)
+Follows h w cs = AllMadeBy (passed_in h) (blocks_of cs w) (entries_of w h)
+
+-- the sessions of a script are those that open a request in it
+abbrev pub opens_in : ℕ → Command → Bool
+opens_in w (Begin session name mode policy turns latches) = session == w
+opens_in w (Wait name) = false
+opens_in w (Check name latches) = false
+opens_in w (Poison name) = false
+opens_in w (Release name) = false
+opens_in w Metrics = false
+
+abbrev pub is_session_of : List Command → ℕ → Bool
+is_session_of cs w = list_any (opens_in w) cs
+
+-- No entry is of another: the session of each is one of the script.
+abbrev pub HasNoOthers : List Entry → List Command → Type 0
+HasNoOthers h cs = All (λ e. IsTrue (is_session_of cs (session_of e))) h
+
+-- A history follows a script: the entries of each of its sessions follow that session's commands, and no entry is of another.
+pub record FollowsScript (h : List Entry) (cs : List Command) : Type 0 where
+  pub each : (w : ℕ) → IsTrue (is_session_of cs w) → Follows h w cs
+  pub no_others : HasNoOthers h cs

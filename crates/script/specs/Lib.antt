@@ -10,4 +10,5 @@ pub mod Names
 pub mod Outcomes
 pub mod Generated
 pub mod Follows
+pub mod Conflicting
 pub mod Worked

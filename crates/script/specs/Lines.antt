@@ -3,11 +3,13 @@ use Rattle.std.specs.Prelude.{ℕ, nat_lt, if◌then◌else◌, List, [], ◌∷
 use Rattle.std.specs.List.{slice_split}
 use Rattle.std.specs.Str.{bytes_eq}
 use Rattle.latch_model.specs.declared.latch.Latch.{Latch}
+use Rattle.latch_model.specs.declared.latch.TheConstants.Latches.{LIMIT as latch_limit}
 use Rattle.latch_model.specs.declared.latch.Mode.{Mode}
 use Rattle.latch_model.specs.declared.latch.Mode.TheVariants.{Acquire, Optimistic, Look}
 use Rattle.script.specs.Fields.{◌>>=◌, or_cause, is_byte, number_at, name_at, policy_at, latch_at, begins, behind}
 use Rattle.script.specs.declared.command.Command.{Command}
 use Rattle.script.specs.declared.command.Command.TheVariants.{Begin, Wait, Check, Poison, Release, Metrics}
+use Rattle.script.specs.declared.limits.TheConstants.{SESSION_LIMIT, TURN_LIMIT}
 
 -- The fields of a line are what stands between its single spaces.
 abbrev pub fields : List ℕ → List (List ℕ)
@@ -18,22 +20,22 @@ unfoldable pub latches_at : List (List ℕ) → Result (List Latch) ℕ
 latches_at [] = Ok []
 latches_at (f ∷ fs) = latch_at f >>= λ latch. latches_at fs >>= λ latches. Ok (latch ∷ latches)
 
--- The latches of a line's last fields: 11, there are more than 16.
+-- The latches of a line's last fields: 11, there are too many of them.
 unfoldable pub few_at : List (List ℕ) → Result (List Latch) ℕ
-few_at fs = latches_at fs >>= λ latches. if nat_lt 16 (length latches) then Err 11 else Ok latches
+few_at fs = latches_at fs >>= λ latches. if nat_lt latch_limit (length latches) then Err 11 else Ok latches
 
 -- The turns and the latches behind a policy: 7, the first of these fields begins with `turns=` and spells no number of turns.
 unfoldable pub rest_at : List (List ℕ) → Result (Option ℕ × List Latch) ℕ
 rest_at [] = Ok (None, [])
 rest_at (f ∷ fs) =
     if begins (codes "turns=") f
-    then (or_cause 7 (number_at 1 1000000 (behind (codes "turns=") f)) >>= λ turns. few_at fs >>= λ latches. Ok (Some turns, latches))
+    then (or_cause 7 (number_at 1 TURN_LIMIT (behind (codes "turns=") f)) >>= λ turns. few_at fs >>= λ latches. Ok (Some turns, latches))
     else (few_at (f ∷ fs) >>= λ latches. Ok (None, latches))
 
 -- An opening: 3, there are fewer than three fields behind the word; 4, 5 and 6, the session, the name and the policy.
 unfoldable pub opening_at : Mode → List (List ℕ) → Result Command ℕ
 opening_at mode (session ∷ name ∷ policy ∷ more) =
-    or_cause 4 (number_at 1 64 session) >>= λ s. or_cause 5 (name_at name) >>= λ n. or_cause 6 (policy_at policy) >>= λ p. rest_at more >>= λ r. Ok (Begin s n mode p r.0 r.1)
+    or_cause 4 (number_at 1 SESSION_LIMIT session) >>= λ s. or_cause 5 (name_at name) >>= λ n. or_cause 6 (policy_at policy) >>= λ p. rest_at more >>= λ r. Ok (Begin s n mode p r.0 r.1)
 opening_at mode [] = Err 3
 opening_at mode (session ∷ []) = Err 3
 opening_at mode (session ∷ name ∷ []) = Err 3

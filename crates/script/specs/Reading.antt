@@ -7,6 +7,7 @@ use Rattle.script.specs.Commands.{rule_cause, some_live}
 use Rattle.script.specs.Fields.{◌>>=◌, is_byte}
 use Rattle.script.specs.Lines.{fields, command_at}
 use Rattle.script.specs.declared.command.Command.{Command}
+use Rattle.script.specs.declared.limits.TheConstants.{TEXT_LIMIT}
 
 -- What stands before each line feed and, as the last part, what follows the last one: a line without a line feed.
 abbrev pub lines : List ℕ → List (List ℕ)
@@ -50,9 +51,9 @@ all_at [] = Err (1, 1)
 all_at (last ∷ []) = Err (1, 1)
 all_at (line ∷ next ∷ more) = if bytes_eq line (codes "latch script 1") then commands_at [] 2 (next ∷ more) else Err (1, 2)
 
--- The script that bytes spell, or the line and the cause of what is wrong first: 18, there are more than 4,194,304 bytes; the line is 0.
+-- The script that bytes spell, or the line and the cause of what is wrong first: 18, there are too many bytes; the line is 0.
 unfoldable pub script_at : List ℕ → Result (List Command) (ℕ × ℕ)
-script_at bytes = if nat_lt 4194304 (length bytes) then Err (0, 18) else all_at (lines bytes)
+script_at bytes = if nat_lt TEXT_LIMIT (length bytes) then Err (0, 18) else all_at (lines bytes)
 
 abbrev pub fault : List ℕ → Option (ℕ × ℕ)
 fault bytes = result_err (script_at bytes)

@@ -1,8 +1,9 @@
 // Commands and scripts.
-ghost use Rattle.std.specs.Prelude.{◌≡◌, ◌↔◌, IsTrue, IfSome, IfNone, IfOk, IfErr, length};
+ghost use Rattle.std.specs.Prelude.{◌≡◌, ◌↔◌, ◌≤◌, IsTrue, IfSome, IfNone, IfOk, IfErr, length};
 ghost use Rattle.script.specs.declared.fault.FieldFault.TheVariants.{Memory};
 
 use crate::fault::FieldFault;
+use crate::limits::COMMAND_LIMIT;
 use latch_model::latch::{Latches, Mode, Policy};
 use std::alloc::Global;
 use std::marker::Model;
@@ -19,8 +20,12 @@ impl Model for Name {
     ghost Value = { List ℕ };
 
     ghost use Rattle.std.specs.String.{string_bytes};
+    ghost use Rattle.std.specs.Prelude.{IsTrue};
+    ghost use Rattle.script.specs.Scripts.{is_name};
 
     ghost view = { λ n. string_bytes n.text };
+
+    ghost invariant = { λ n. IsTrue (is_name (string_bytes n.text)) };
 }
 
 impl Name {
@@ -40,9 +45,11 @@ impl Name {
         }
     }
 
-    /// The bytes of the name, which are ASCII.
+    /// The bytes of the name: a lower-case letter, and then lower-case letters and digits.
     pub fn bytes(&self) -> &[u8]
-        ensures { result.now ≡ self.now }
+        ensures bytes { result.now ≡ self.now }
+        ensures spelled { IsTrue (is_name self.now) }
+        ensures size { (1 ≤ length self.now) × (length self.now ≤ 16) }
     {
         self.text.as_bytes()
     }
@@ -81,7 +88,7 @@ pub enum Command {
     Metrics,
 }
 
-/// Commands that keep the rules of scripts. Command number i, from 0, stands on line i + 2.
+/// Commands that keep the rules of scripts, and whose spelling has at most `TEXT_LIMIT` bytes. Command number i, from 0, stands on line i + 2.
 #[derive(Drop)]
 pub struct Script {
     commands: Vec<Command>,
@@ -93,19 +100,20 @@ impl Model for Script {
 
     ghost Value = { List Command };
 
-    ghost use Rattle.script.specs.Scripts.{IsScript};
+    ghost use Rattle.script.specs.Scripts.{FitsLimit, IsScript};
 
     ghost view = { λ s. s.commands.items };
 
-    ghost invariant = { λ s. IsScript s.commands.items };
+    ghost invariant = { λ s. IsScript s.commands.items × FitsLimit s.commands.items };
 }
 
 impl Script {
-    ghost use Rattle.script.specs.Scripts.{IsScript};
+    ghost use Rattle.script.specs.Scripts.{FitsLimit, IsScript};
 
     // The script of these commands.
     pub(crate) fn of(commands: Vec<Command>) -> Script
-        requires { IsScript commands.items }
+        requires rules { IsScript commands.items }
+        requires fits { FitsLimit commands.items }
         ensures { result ≡ commands.items }
     {
         Script { commands }
@@ -113,7 +121,12 @@ impl Script {
 
     /// The commands in their order.
     pub fn commands(&self) -> &[Command]
-        ensures { result.now ≡ self.now }
+        ensures list { result.now ≡ self.now }
+        // They keep the rules of scripts, and their spelling has at most `TEXT_LIMIT` bytes.
+        ensures rules { IsScript self.now }
+        ensures fits { FitsLimit self.now }
+        // So line numbers, and what a run counts, stay small.
+        ensures few { length self.now ≤ COMMAND_LIMIT }
     {
         self.commands.as_slice()
     }

@@ -14,6 +14,7 @@ ghost use Rattle.script.specs.Outcomes.{Gives};
 
 use crate::command::Name;
 use crate::fault::FieldFault;
+use crate::limits::KEY_LIMIT;
 use hex::FromHexError;
 use hlc_stamp::Stamp;
 use latch_model::latch::{Access, Latch, Policy};
@@ -225,7 +226,7 @@ fn access_of(text: &[u8]) -> Option<(Access, &[u8])>
 fn bounded(alloc: Global, bounds: Bounds) -> Result<Span, FieldFault>
     ensures { Gives (λ s. s) result (bounded_at (bounds.key.items, bounds.end.items)) }
 {
-    if bounds.key.len() > Key::LIMIT || bounds.end.len() > Key::LIMIT {
+    if bounds.key.len() > KEY_LIMIT || bounds.end.len() > KEY_LIMIT {
         return Err(FieldFault::Bad { cause: 9 });
     }
     let key = key_of(alloc, &bounds.key)?;
@@ -239,7 +240,7 @@ fn bounded(alloc: Global, bounds: Bounds) -> Result<Span, FieldFault>
 }
 
 fn key_of(alloc: Global, bytes: &[u8]) -> Result<Key, FieldFault>
-    requires { length bytes.now ≤ 256 }
+    requires { length bytes.now ≤ KEY_LIMIT }
     ensures made { IfOk result (λ k. k ≡ bytes.now) }
     ensures refused { IfErr result (λ e. e ≡ Memory) }
 {

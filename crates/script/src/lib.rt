@@ -5,7 +5,9 @@ pub mod command;
 mod draft;
 pub mod fault;
 mod field;
+pub mod following;
 mod latch_text;
+mod limits;
 mod line;
 mod read;
 pub mod spelling;
@@ -15,6 +17,7 @@ pub use field::read_latch;
 pub use latch_text::{
     push_after, push_bounds, push_latch, push_number, push_span, push_whole_stamp,
 };
+pub use limits::{COMMAND_LIMIT, KEY_LIMIT, SESSION_LIMIT, TEXT_LIMIT, TURN_LIMIT};
 pub use read::read_script;
 
 #[cfg(test)]

@@ -7,6 +7,7 @@ ghost use Rattle.script.specs.Outcomes.{Gives};
 use crate::command::{Command, Name};
 use crate::fault::FieldFault;
 use crate::field::{cut, is_word, latch, name, number, policy};
+use crate::limits::{SESSION_LIMIT, TURN_LIMIT};
 use latch_model::latch::{Latch, Latches, Mode};
 use std::alloc::Global;
 use std::marker::Model;
@@ -80,7 +81,7 @@ fn rest(alloc: Global, fields: Fields<'_>) -> Result<(Option<u32>, Latches), Fie
     };
     match field.strip_prefix(b"turns=") {
         None => Ok((None, few(alloc, fields)?)),
-        Some(text) => match number(1, 1_000_000, text) {
+        Some(text) => match number(1, u64::from(TURN_LIMIT), text) {
             None => Err(FieldFault::Bad { cause: 7 }),
             Some(turns) => Ok((Some(turns as u32), few(alloc, after)?)),
         },
@@ -101,7 +102,7 @@ fn opening(alloc: Global, mode: Mode, fields: Fields<'_>) -> Result<Command, Fie
     let Some((policy_text, fields)) = fields.split_first() else {
         return Err(FieldFault::Bad { cause: 3 });
     };
-    let Some(session) = number(1, 64, who) else {
+    let Some(session) = number(1, u64::from(SESSION_LIMIT), who) else {
         return Err(FieldFault::Bad { cause: 4 });
     };
     let name = name(alloc, name_text)?;

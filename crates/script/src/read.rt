@@ -13,13 +13,11 @@ use crate::command::{Command, Script};
 use crate::draft::Draft;
 use crate::fault::{FieldFault, ReadScript, ScriptFault};
 use crate::field::{cut, is_word};
+use crate::limits::TEXT_LIMIT;
 use crate::line::command;
 use std::alloc::Global;
 
-/// The most bytes of a script.
-const LIMIT: usize = 4_194_304;
-
-/// The script that these bytes spell. Faults have the causes 1 to 18; a longer input than 4,194,304 bytes is refused by 18.
+/// The script that these bytes spell. Faults have the causes 1 to 18; a longer input than `TEXT_LIMIT` is refused by 18.
 pub fn read_script(alloc: Global, bytes: &[u8]) -> Result<Script, ReadScript>
     // What is read is a script, and the bytes are its spelling.
     ensures found { IfOk result (λ s. Spells bytes.now s) }
@@ -83,7 +81,7 @@ fn end(draft: Draft, line: u32, after: &[u8]) -> Result<Vec<Command>, ReadScript
 
 // The commands of the lines behind the first one.
 fn commands(alloc: Global, bytes: &[u8]) -> Result<Vec<Command>, ReadScript>
-    requires { length bytes.now ≤ 4194304 }
+    requires { length bytes.now ≤ TEXT_LIMIT }
     ensures { Reads (λ v. v.items) result (commands_at [] 2 (lines bytes.now)) }
 {
     let mut draft = Draft::new(alloc);
@@ -107,7 +105,7 @@ fn commands(alloc: Global, bytes: &[u8]) -> Result<Vec<Command>, ReadScript>
 fn all(alloc: Global, bytes: &[u8]) -> Result<Vec<Command>, ReadScript>
     ensures { Reads (λ v. v.items) result (script_at bytes.now) }
 {
-    if bytes.len() > LIMIT {
+    if bytes.len() > TEXT_LIMIT {
         return Err(bad(0, 18));
     }
     let Some((first, after)) = next_line(bytes) else {

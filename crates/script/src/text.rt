@@ -1,7 +1,7 @@
 // How scripts are spelled.
 ghost use Rattle.std.specs.Prelude.{◌≡◌, ◌∷◌, ◌++◌, [], IfOk, OnOk, codes, decimal, map};
 ghost use Rattle.script.specs.Commands.{fields_of, line_of, mode_text, policy_text, turns_fields};
-ghost use Rattle.script.specs.Scripts.{text_of};
+ghost use Rattle.script.specs.Scripts.{Spells, text_of};
 ghost use Rattle.script.specs.Spaced.{spaced};
 ghost use Rattle.script.specs.Texts.{latch_text};
 
@@ -9,21 +9,19 @@ use crate::command::{Command, Name, Script};
 use crate::latch_text::push_latch;
 use latch_model::latch::{Latch, Latches, Mode, Policy};
 use span_key::Memory;
-use std::alloc::{AllocError, Global};
+use std::alloc::Global;
 
 impl Script {
     /// The one spelling of the script: reading it gives the script again.
     pub fn text(&self, alloc: Global) -> Result<Vec<u8>, Memory>
-        ensures { IfOk result (λ v. v.items ≡ text_of self.now) }
+        ensures text { IfOk result (λ v. v.items ≡ text_of self.now) }
+        ensures spelled { IfOk result (λ v. Spells v.items self.now) }
     {
-        match spell(alloc, self.commands()) {
-            Ok(text) => Ok(text),
-            Err(_) => Err(Memory),
-        }
+        spell(alloc, self.commands())
     }
 }
 
-fn spell(alloc: Global, commands: &[Command]) -> Result<Vec<u8>, AllocError>
+fn spell(alloc: Global, commands: &[Command]) -> Result<Vec<u8>, Memory>
     ensures { IfOk result (λ v. v.items ≡ text_of commands.now) }
 {
     let mut out = Vec::from_slice(alloc, b"latch script 1\n")?;
@@ -35,7 +33,7 @@ fn spell(alloc: Global, commands: &[Command]) -> Result<Vec<u8>, AllocError>
 }
 
 // The line of a command.
-fn put_command(out: &mut Vec<u8>, command: &Command) -> Result<(), AllocError>
+fn put_command(out: &mut Vec<u8>, command: &Command) -> Result<(), Memory>
     ensures { OnOk result (out.new.items ≡ out.old.items ++ line_of (fields_of command.now)) }
 {
     match command {
@@ -64,7 +62,7 @@ fn put_command(out: &mut Vec<u8>, command: &Command) -> Result<(), AllocError>
 }
 
 // The line of a word and a name.
-fn put_named(out: &mut Vec<u8>, word: &[u8], name: &Name) -> Result<(), AllocError>
+fn put_named(out: &mut Vec<u8>, word: &[u8], name: &Name) -> Result<(), Memory>
     ensures { OnOk result (out.new.items ≡ out.old.items ++ line_of (word.now ∷ name.now ∷ [])) }
 {
     out.extend_from_slice(word)?;
@@ -80,7 +78,7 @@ fn put_front(
     session: u32,
     name: &Name,
     policy: Policy,
-) -> Result<(), AllocError>
+) -> Result<(), Memory>
     ensures { OnOk result (out.new.items ≡ out.old.items ++ (mode_text mode ++ spaced (decimal session ∷ name.now ∷ policy_text policy ∷ []))) }
 {
     out.extend_from_slice(mode_word(mode))?;
@@ -90,7 +88,7 @@ fn put_front(
 }
 
 // The latches at the end of a line, and its line feed.
-fn put_end(out: &mut Vec<u8>, latches: &Latches) -> Result<(), AllocError>
+fn put_end(out: &mut Vec<u8>, latches: &Latches) -> Result<(), Memory>
     ensures { OnOk result (out.new.items ≡ out.old.items ++ (spaced (map latch_text latches.now) ++ 10 ∷ [])) }
 {
     put_latches(out, latches.list())?;
@@ -118,20 +116,20 @@ fn policy_word(policy: Policy) -> &'static [u8]
 }
 
 // A space and a field.
-fn put_field(out: &mut Vec<u8>, field: &[u8]) -> Result<(), AllocError>
+fn put_field(out: &mut Vec<u8>, field: &[u8]) -> Result<(), Memory>
     ensures { OnOk result (out.new.items ≡ out.old.items ++ (32 ∷ field.now)) }
 {
     out.push(b' ')?;
     out.extend_from_slice(field)
 }
 
-fn put_number(out: &mut Vec<u8>, n: u32) -> Result<(), AllocError>
+fn put_number(out: &mut Vec<u8>, n: u32) -> Result<(), Memory>
     ensures { OnOk result (out.new.items ≡ out.old.items ++ (32 ∷ decimal n)) }
 {
     put_field(out, itoa::Buffer::new().format(n).as_bytes())
 }
 
-fn put_turns(out: &mut Vec<u8>, turns: Option<u32>) -> Result<(), AllocError>
+fn put_turns(out: &mut Vec<u8>, turns: Option<u32>) -> Result<(), Memory>
     ensures { OnOk result (out.new.items ≡ out.old.items ++ spaced (turns_fields turns)) }
 {
     match turns {
@@ -144,7 +142,7 @@ fn put_turns(out: &mut Vec<u8>, turns: Option<u32>) -> Result<(), AllocError>
 }
 
 // The latches, each with a space in front.
-fn put_latches(out: &mut Vec<u8>, latches: &[Latch]) -> Result<(), AllocError>
+fn put_latches(out: &mut Vec<u8>, latches: &[Latch]) -> Result<(), Memory>
     ensures { OnOk result (out.new.items ≡ out.old.items ++ spaced (map latch_text latches.now)) }
 {
     for latch in latches {

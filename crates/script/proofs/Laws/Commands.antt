@@ -8,6 +8,7 @@ use Rattle.latch_model.specs.declared.latch.Mode.TheVariants.{Acquire, Optimisti
 use Rattle.latch_model.specs.declared.latch.Policy.{Policy}
 use Rattle.latch_model.specs.declared.latch.Policy.TheVariants.{Wait as policy_wait, Error}
 use Rattle.script.specs.declared.command.Command.{Command}
+use Rattle.script.specs.declared.limits.TheConstants.{SESSION_LIMIT}
 use Rattle.script.specs.declared.command.Command.TheVariants.{Begin, Wait, Check, Poison, Release, Metrics}
 use Rattle.script.specs.Fields.{◌>>=◌, or_cause, number_at, name_at, policy_at}
 use Rattle.script.specs.Lines.{few_at, rest_at, opening_at, named_at, check_at, metrics_at, command_at}
@@ -60,11 +61,11 @@ opening_takes mode [] c e = absurd cc
 opening_takes mode (session ∷ []) c e = absurd cc
 opening_takes mode (session ∷ name ∷ []) c e = absurd cc
 opening_takes mode (session ∷ name ∷ policy ∷ more) c e =
-    let s = ok_bound (or_cause 4 (number_at 1 64 session)) (λ s. or_cause 5 (name_at name) >>= λ n. or_cause 6 (policy_at policy) >>= λ p. rest_at more >>= λ r. Ok (Begin s n mode p r.0 r.1)) c e in
+    let s = ok_bound (or_cause 4 (number_at 1 SESSION_LIMIT session)) (λ s. or_cause 5 (name_at name) >>= λ n. or_cause 6 (policy_at policy) >>= λ p. rest_at more >>= λ r. Ok (Begin s n mode p r.0 r.1)) c e in
     let n = ok_bound (or_cause 5 (name_at name)) (λ n. or_cause 6 (policy_at policy) >>= λ p. rest_at more >>= λ r. Ok (Begin s.0 n mode p r.0 r.1)) c s.2 in
     let p = ok_bound (or_cause 6 (policy_at policy)) (λ p. rest_at more >>= λ r. Ok (Begin s.0 n.0 mode p r.0 r.1)) c n.2 in
     let r = ok_bound (rest_at more) (λ r. Ok (Begin s.0 n.0 mode p.0 r.0 r.1)) c p.2 in
-    let is_session = number_takes 1 64 session s.0 (omega arith) (cause_ok 4 (number_at 1 64 session) s.0 s.1) in
+    let is_session = number_takes 1 SESSION_LIMIT session s.0 (omega arith) (cause_ok 4 (number_at 1 SESSION_LIMIT session) s.0 s.1) in
     let is_named = name_takes name n.0 (cause_ok 5 (name_at name) n.0 n.1) in
     let is_policy = policy_takes policy p.0 (cause_ok 6 (policy_at policy) p.0 p.1) in
     let is_rest = rest_takes more r.0 r.1 in
@@ -76,7 +77,7 @@ opening_again : (session : ℕ) (name : List ℕ) (mode : Mode) (policy : Policy
     → opening_at mode (decimal session ∷ name ∷ policy_text policy ∷ rest_fields (turns, latches)) ≡ Ok (Begin session name mode policy turns latches)
 unfolding opening_at
 opening_again session name mode policy turns latches ok =
-    rw (number_again 1 64 session (omega arith) ok.session_low ok.session_high, name_again name ok.name_spelled, policy_again policy, rest_again turns latches (ok.turns_range, ok.latches_fit)) refl
+    rw (number_again 1 SESSION_LIMIT session (omega arith) ok.session_low ok.session_high, name_again name ok.name_spelled, policy_again policy, rest_again turns latches (ok.turns_range, ok.latches_fit)) refl
 
 named_takes : (fs : List (List ℕ)) (n : List ℕ) → named_at fs ≡ Ok n → (fs ≡ n ∷ []) × IsTrue (is_name n)
 unfolding named_at

@@ -14,6 +14,7 @@ use Rattle.latch_model.specs.declared.latch.Latch.{Latch}
 use Rattle.script.specs.Fields.{◌>>?◌, ◌>>=◌, or_cause, is_byte, has_byte, begins, span_at, stamp_at, place_at, access_at, bounded_at, is_long, is_reversed, latch_at}
 use Rattle.script.specs.Scripts.{IsScriptLatch}
 use Rattle.script.specs.Texts.{span_text, stamp_text, access_text, latch_text}
+use Rattle.script.specs.declared.limits.TheConstants.{KEY_LIMIT}
 use Rattle.script.proofs.Laws.Steps.{some_bound, some_is, ok_bound, done, ok_is, cause_ok, chosen, ok_unless_err}
 use Rattle.script.proofs.Laws.Bytes.{lacks}
 use Rattle.script.proofs.Laws.Cuts.{cut_takes, before_again, after_again, has_again, parts_same}
@@ -98,11 +99,11 @@ behind_access Write rest = refl
 
 -- ---- keys that a program can hold, and an end past its key
 
-long_parts : (s : Pair) → is_long s ≡ false → (length s.0 ≤ 256) × (length s.1 ≤ 256)
-long_parts s h = let p = or_parts (ltb 256 (length s.0)) (ltb 256 (length s.1)) h in (ltb-false 256 (length s.0) p.0, ltb-false 256 (length s.1) p.1)
+long_parts : (s : Pair) → is_long s ≡ false → (length s.0 ≤ KEY_LIMIT) × (length s.1 ≤ KEY_LIMIT)
+long_parts s h = let p = or_parts (ltb KEY_LIMIT (length s.0)) (ltb KEY_LIMIT (length s.1)) h in (ltb-false KEY_LIMIT (length s.0) p.0, ltb-false KEY_LIMIT (length s.1) p.1)
 
-long_from : (s : Pair) → length s.0 ≤ 256 → length s.1 ≤ 256 → is_long s ≡ false
-long_from s h g = or_from (ltb 256 (length s.0)) (ltb 256 (length s.1)) (le-ltb 256 (length s.0) h) (le-ltb 256 (length s.1) g)
+long_from : (s : Pair) → length s.0 ≤ KEY_LIMIT → length s.1 ≤ KEY_LIMIT → is_long s ≡ false
+long_from s h g = or_from (ltb KEY_LIMIT (length s.0)) (ltb KEY_LIMIT (length s.1)) (le-ltb KEY_LIMIT (length s.0) h) (le-ltb KEY_LIMIT (length s.1) g)
 
 reversed_is : (key : List ℕ) (b : ℕ) (bs : List ℕ) → is_reversed (key, b ∷ bs) ≡ not (key_lt key (b ∷ bs))
 reversed_is key b bs = let some : eqb (suc (length bs)) 0 ≡ false = ne_eqb (suc (length bs)) 0 (λ z. omega arith) in ap (λ (t : Bool). not t && not (key_lt key (b ∷ bs))) some
@@ -119,21 +120,21 @@ span_from : (s : Pair) → IsKeyed s → is_long s ≡ false → is_reversed s �
 span_from s keyed long reversed =
     let fits = long_parts s long in
     record {
-      key = record { bytes = keyed.key; fits = fits.0 };
-      end = record { bytes = keyed.end; fits = fits.1 };
+      key = record { bytes = keyed.key; fits = let short = fits.0 in omega arith };
+      end = record { bytes = keyed.end; fits = let short = fits.1 in omega arith };
       ordered = ordered_takes s reversed;
     }
 
-bounded_takes : (s p : Pair) → IsKeyed s → bounded_at s ≡ Ok p → (s ≡ p) × IsSpan s
+bounded_takes : (s p : Pair) → IsKeyed s → bounded_at s ≡ Ok p → (s ≡ p) × IsSpan s × (length s.0 ≤ KEY_LIMIT) × (length s.1 ≤ KEY_LIMIT)
 unfolding bounded_at
 bounded_takes s p keyed e =
     let long = ok_unless_err (is_long s) 9 (cond (is_reversed s) (Err 10) (Ok s)) p e in
     let reversed = ok_unless_err (is_reversed s) 10 (Ok s) p long.1 in
-    (ok_is {C = ℕ} s p reversed.1, span_from s keyed long.0 reversed.0)
+    (ok_is {C = ℕ} s p reversed.1, span_from s keyed long.0 reversed.0, (long_parts s long.0).0, (long_parts s long.0).1)
 
-bounded_again : (s : Pair) → IsSpan s → bounded_at s ≡ Ok s
+bounded_again : (s : Pair) → IsSpan s → length s.0 ≤ KEY_LIMIT → length s.1 ≤ KEY_LIMIT → bounded_at s ≡ Ok s
 unfolding bounded_at
-bounded_again s ok = rw (long_from s ok.key.fits ok.end.fits, ordered_again s ok.ordered) refl
+bounded_again s ok key end = rw (long_from s key end, ordered_again s ok.ordered) refl
 
 -- ---- the two laws
 
@@ -163,7 +164,7 @@ latch_takes f l e =
     let bounded = bounded_takes b.0.0 c.0 place.1.0 c.1 in
     let m = made_latch a.0 b.0.0 b.0.1 in
     let same : m ≡ l = same_latch a.0 b.0.0 c.0 b.0.1 l bounded.0 c.2 in
-    let is : IsScriptLatch m = record { span = bounded.1; key = place.1.0.some; wall = place.1.1.wall; logical = place.1.1.logical } in
+    let is : IsScriptLatch m = record { span = bounded.1; key = place.1.0.some; key_fits = bounded.2; end_fits = bounded.3; wall = place.1.1.wall; logical = place.1.1.logical } in
     subst (λ (x : Latch). (f ≡ latch_text x) × IsScriptLatch x) {x = m} same (text_from f (drop 2 f) a.0 b.0 access place.0, is)
 
 latch_read : (l : Latch) → IsScriptLatch l → latch_at (access_text l.access ++ place_text (place_of l)) ≡ Ok l
@@ -171,7 +172,7 @@ unfolding latch_at
 latch_read l ok =
     let p = place_of l in
     let placed : IsPlaced p = (record { some = ok.key; key = ok.span.key.bytes; end = ok.span.end.bytes }, record { wall = ok.wall; logical = ok.logical }) in
-    rw (access_again l.access (place_text p), behind_access l.access (place_text p), place_again p placed, bounded_again l.span ok.span) refl
+    rw (access_again l.access (place_text p), behind_access l.access (place_text p), place_again p placed, bounded_again l.span ok.span ok.key_fits ok.end_fits) refl
 
 pub latch_again : (l : Latch) → IsScriptLatch l → latch_at (latch_text l) ≡ Ok l
 latch_again l ok = ap latch_at (latch_text_is l) ∙ latch_read l ok

@@ -18,6 +18,7 @@ use Rattle.script.specs.Fields.{has_byte}
 use Rattle.script.specs.Commands.{mode_text, policy_text, turns_fields, fields_of}
 use Rattle.script.specs.Scripts.{is_letter, is_name_byte, is_name, IsScriptLatch, AreScriptLatches, IsCommand}
 use Rattle.script.specs.Texts.{access_text, span_text, stamp_text, latch_text}
+use Rattle.script.specs.declared.limits.TheConstants.{TURN_LIMIT}
 use Rattle.script.proofs.Laws.Bytes.{Each, Each-cons, Each-append, Each-weaker, lacks}
 use Rattle.script.proofs.Laws.Numbers.{Each-decimal}
 use Rattle.script.proofs.Laws.Spans.{is_span_byte, Each-span_text}
@@ -84,7 +85,7 @@ latches_dark (l ∷ ls) ok = (latch_dark l ok.0, latches_dark ls ok.1)
 are_dark : (ls : List Latch) → AreScriptLatches ls → AreDark (map latch_text ls)
 are_dark ls ok = latches_dark ls (recursion_from_All IsScriptLatch ls ok.each)
 
-rest_dark : (turns : Option ℕ) (ls : List Latch) → IfSome turns (λ n. (1 ≤ n) × (n ≤ 1000000)) → AreScriptLatches ls → AreDark (turns_fields turns ++ map latch_text ls)
+rest_dark : (turns : Option ℕ) (ls : List Latch) → IfSome turns (λ n. (1 ≤ n) × (n ≤ TURN_LIMIT)) → AreScriptLatches ls → AreDark (turns_fields turns ++ map latch_text ls)
 rest_dark None ls t ok = are_dark ls ok
 rest_dark (Some n) ls t ok =
     let lt : n < 2 ^ 64 = let h = t.1 in omega arith in

@@ -1,5 +1,5 @@
 -- A script is spelled in one way: what is read is spelled so, what is spelled so is read, and a fault comes where nothing is spelled.
-use Rattle.std.proofs.Common.{◌≡◌, ◌↔◌, ℕ, zero, suc, false, ltb, List, [], ◌∷◌, ◌++◌, length, map, take, slice_get, Some, None, Result, Ok, Err, codes, refl, sym, ap, subst, ◌∙◌, append-nil, append_assoc, All}
+use Rattle.std.proofs.Common.{◌≡◌, ◌≤◌, ◌↔◌, ℕ, zero, suc, false, ltb, List, [], ◌∷◌, ◌++◌, length, map, take, slice_get, Some, None, Result, Ok, Err, codes, refl, sym, ap, subst, ◌∙◌, append-nil, append_assoc, All}
 use Rattle.std.specs.Str.{bytes_eq}
 use Rattle.std.specs.Result.{result_err}
 use Rattle.std.specs.List.{AllByRecursion, slice_split, flat_map}
@@ -11,6 +11,7 @@ use Rattle.script.specs.Commands.{fields_of, line_of, rule_cause}
 use Rattle.script.specs.Fields.{is_byte}
 use Rattle.script.specs.Reading.{lines, commands_at, all_at, script_at, fault}
 use Rattle.script.specs.Scripts.{IsCommand, IsScript, text_of, Spells}
+use Rattle.script.specs.declared.limits.TheConstants.{TEXT_LIMIT}
 use Rattle.script.proofs.Laws.Steps.{ok_is, ok_unless_err, ok_when}
 use Rattle.script.proofs.Laws.Printed.{fields_dark, no_line_feed}
 use Rattle.script.proofs.Laws.Parts.{first_part, same_parts}
@@ -101,14 +102,15 @@ text_again cs ok = ap all_at (lines_of_text cs ok.commands) ∙ all_again cs ok
 pub script_takes : (b : List ℕ) (cs : List Command) → script_at b ≡ Ok cs → Spells b cs
 unfolding script_at
 script_takes b cs e =
-    let a = ok_unless_err (ltb 4194304 (length b)) (0, 18) (all_at (lines b)) cs e in
+    let a = ok_unless_err (ltb TEXT_LIMIT (length b)) (0, 18) (all_at (lines b)) cs e in
     let t = text_takes b cs a.1 in
-    record { script = t.1; spelled = t.0; short = ltb-false 4194304 (length b) a.0 }
+    let short : length b ≤ TEXT_LIMIT = ltb-false TEXT_LIMIT (length b) a.0 in
+    record { script = t.1; fits = record { short = subst (λ (x : List ℕ). length x ≤ TEXT_LIMIT) t.0 short }; spelled = t.0 }
 
 pub script_again : (b : List ℕ) (cs : List Command) → Spells b cs → script_at b ≡ Ok cs
 unfolding script_at
 script_again b cs s =
-    let short : ltb 4194304 (length b) ≡ false = le-ltb 4194304 (length b) s.short in
+    let short : ltb TEXT_LIMIT (length b) ≡ false = le-ltb TEXT_LIMIT (length b) (subst (λ (x : List ℕ). length x ≤ TEXT_LIMIT) (sym s.spelled) s.fits.short) in
     let read : all_at (lines b) ≡ Ok cs = ap (λ (x : List ℕ). all_at (lines x)) s.spelled ∙ text_again cs s.script in
     rw short read
 

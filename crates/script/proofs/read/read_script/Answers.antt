@@ -14,8 +14,11 @@ only_fails e b cs h s = subst (λ (read : Result (List Command) (ℕ × ℕ)). S
 abbrev done : List Command → Result (List Command) (ℕ × ℕ)
 done cs = Ok cs
 
-pub of-requires : goal.of-requires
-of-requires c = (script_takes c.args.bytes.now c.in_ok-all.field-0.items c.in_ok-all.ensures).script
+pub of-requires-clause-rules : goal.of-requires-clause-rules
+of-requires-clause-rules c = (script_takes c.args.bytes.now c.in_ok-all.field-0.items c.in_ok-all.ensures).script
+
+pub of-requires-clause-fits : goal.of-requires-clause-fits
+of-requires-clause-fits c = (script_takes c.args.bytes.now c.in_ok-all.field-0.items c.in_ok-all.ensures).fits
 
 pub returns-in_err-all-clause-only : goal.returns-in_err-all-clause-only
 returns-in_err-all-clause-only c = λ cs s.

@@ -18,4 +18,4 @@ returns-in_ok-put_field-in-Check c =
     let b = c.in-Check in
     let out = c.args.out.now.items in
     let line = check_line out (codes "check") b.name (map latch_text b.latches) in
-    on_ok_weaker c.put_end-in-Check.result (λ e. e ∙ rw (c.in_ok-put_field-in-Check.ensures, c.in_ok-extend_from_slice-in-Check.ensures.items, c.bytes.ensures) line ∙ ap (λ (x : Command). out ++ line_of (fields_of x)) (sym b.is)) c.put_end-in-Check.ensures
+    on_ok_weaker c.put_end-in-Check.result (λ e. e ∙ rw (c.in_ok-put_field-in-Check.ensures, c.in_ok-extend_from_slice-in-Check.ensures.items, c.bytes.ensures.bytes) line ∙ ap (λ (x : Command). out ++ line_of (fields_of x)) (sym b.is)) c.put_end-in-Check.ensures
