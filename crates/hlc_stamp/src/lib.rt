@@ -3,7 +3,10 @@
 
 ghost use Rattle.std.specs.Prelude.{◌≡◌, ◌↔◌, IsTrue};
 
-/// A timestamp. Stamps are ordered by wall time and then by the logical count, which is what `<` and `cmp` say.
+pub mod laws;
+
+/// A timestamp. Stamps are ordered by wall time and then by the logical count, which is what `<`,
+/// `<=` and `cmp` answer (`laws::order`).
 #[derive(Clone, Copy, Debug, PartialEq, Eq, PartialOrd, Ord)]
 pub struct Stamp {
     /// The wall time, in nanoseconds.

@@ -6,6 +6,7 @@ use Rattle.std.specs.Prelude.{◌≡◌, ◌≢◌, ℕ, ◌<◌, ◌≤◌, ◌
 use Rattle.std.specs.Ordering.{nat_cmp, is_lt, is_le, ordering_then, bool_cmp}
 use Rattle.std.specs.Cmp.Lexicographic.{slice_cmp}
 use Rattle.std.specs.declared.cmp.Ordering.{Ordering}
+use Rattle.span_key.specs.declared.keys.TheConstants.Key.{LIMIT}
 
 -- a span as contracts see it: its key, and its end, which is empty where the span is the single key
 abbrev pub Pair : Type 0
@@ -46,7 +47,7 @@ LiesIn s t = (k : List ℕ) → IsBytes k → IsIn k s → IsIn k t
 
 -- the greatest length of a key that a program can hold
 abbrev pub key_limit : ℕ
-key_limit = 256
+key_limit = LIMIT
 
 -- what the value of a key keeps
 pub record IsKey (k : List ℕ) : Type 0 where

@@ -15,6 +15,16 @@ pub enum KeyFault {
     Memory,
 }
 
+impl From<Memory> for KeyFault {
+    ghost use Rattle.span_key.specs.declared.keys.KeyFault.TheVariants.{Memory as NoMemory};
+
+    ghost from_gives = { λ _ e. e ≡ NoMemory };
+
+    fn from(_: Memory) -> KeyFault {
+        KeyFault::Memory
+    }
+}
+
 /// A byte string of at most `Key::LIMIT` bytes. It may be empty.
 #[derive(Debug, Drop)]
 pub struct Key {
@@ -48,10 +58,9 @@ impl Key {
         if bytes.len() > Key::LIMIT {
             return Err(KeyFault::TooLong { len: bytes.len() });
         }
-        match Vec::from_slice(alloc, bytes) {
-            Ok(bytes) => Ok(Key { bytes }),
-            Err(_) => Err(KeyFault::Memory),
-        }
+        Ok(Key {
+            bytes: Vec::from_slice(alloc, bytes)?,
+        })
     }
 
     /// The bytes of the key.
@@ -66,9 +75,8 @@ impl Key {
     pub(crate) fn copy(&self, alloc: Global) -> Result<Key, Memory>
         ensures same { IfOk result (λ k. k ≡ self.now) }
     {
-        match Vec::from_slice(alloc, self.bytes.as_slice()) {
-            Ok(bytes) => Ok(Key { bytes }),
-            Err(_) => Err(Memory),
-        }
+        Ok(Key {
+            bytes: Vec::from_slice(alloc, self.bytes.as_slice())?,
+        })
     }
 }

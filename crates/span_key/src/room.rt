@@ -31,13 +31,10 @@ impl SpanRoom {
     pub fn roomy(alloc: Global) -> Result<SpanRoom, Memory>
         ensures empty { IfOk result (λ r. r ≡ ([], [])) }
     {
-        let Ok(key) = Vec::with_capacity(alloc, Key::LIMIT) else {
-            return Err(Memory);
-        };
-        let Ok(end) = Vec::with_capacity(alloc, Key::LIMIT) else {
-            return Err(Memory);
-        };
-        Ok(SpanRoom { key, end })
+        Ok(SpanRoom {
+            key: Vec::with_capacity(alloc, Key::LIMIT)?,
+            end: Vec::with_capacity(alloc, Key::LIMIT)?,
+        })
     }
 
     /// The span from `key` up to `end`, which is excluded, or `key` alone where `end` is empty.

@@ -14,6 +14,11 @@ fn span(alloc: Global, key: &[u8], end: &[u8]) -> Result<Span, Fail> {
     Ok(Span::range(key, end)?)
 }
 
+// The bytes of a span.
+fn parts<'s>(span: &'s Span) -> (&'s [u8], Option<&'s [u8]>) {
+    (span.key().bytes(), span.end().map(|end| end.bytes()))
+}
+
 // What the keys of one span are to another's.
 #[derive(Clone, Copy, Debug, PartialEq, Eq)]
 enum Keys {
@@ -108,9 +113,9 @@ fn an_end_that_is_not_past_the_key_comes_back(rt: HostRuntime) -> Result<(), Fai
 #[test]
 fn a_copy_has_the_same_keys(rt: HostRuntime) -> Result<(), Fail> {
     let range = span(rt.alloc(), b"a", b"c")?.copy(rt.alloc())?;
-    assert_eq!(rt; range.key().bytes(), b"a".as_slice());
-    let end = range.end().ok_or("no end")?;
-    assert_eq!(rt; end.bytes(), b"c".as_slice());
+    assert_eq!(rt; parts(&range), (b"a".as_slice(), Some(b"c".as_slice())));
+    let point = span(rt.alloc(), b"a", b"")?.copy(rt.alloc())?;
+    assert_eq!(rt; parts(&point), (b"a".as_slice(), None));
     Ok(())
 }
 
