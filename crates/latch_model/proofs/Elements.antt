@@ -1,5 +1,6 @@
 -- Laws of lists, tests and options that speak of nothing else: what holds of each element, filters of filters and of maps, first elements.
-use Rattle.std.proofs.Common.{◌≡◌, ℕ, zero, suc, ◌≤◌, length, take, Bool, true, false, cond, ◌&&◌, ◌||◌, List, [], ◌∷◌, ◌++◌, map, Option, Some, None, refl, sym, ap, ◌∙◌, inl, inr, arith}
+use Rattle.std.proofs.Common.{◌≡◌, ℕ, zero, suc, ◌≤◌, length, take, Bool, true, false, cond, ◌&&◌, ◌||◌, List, [], ◌∷◌, ◌++◌, map, Option, Some, None}
+use Rattle.std.proofs.Common.{refl, sym, ap, ◌∙◌, inl, inr, arith}
 use Rattle.std.specs.List.{filter, flat_map, list_any}
 use Rattle.std.specs.Option.{option_or, option_map}
 use Rattle.std.proofs.lemmas.List.{map-append}
@@ -48,7 +49,8 @@ pub filter_agree_each : {X : Type 0} (p q : X → Bool) (xs : List X) → Each (
 filter_agree_each p q [] h = refl
 filter_agree_each p q (x ∷ xs) h = filter_same_step x (filter p xs) (filter q xs) (p x) (q x) h.0 (filter_agree_each p q xs h.1)
 
-filter_twice_step : {X : Type 0} (p : X → Bool) (x : X) (xs : List X) (a : Bool) (zs : List X) → filter p xs ≡ zs → filter p (cond a (x ∷ xs) xs) ≡ cond (a && p x) (x ∷ zs) zs
+filter_twice_step : {X : Type 0} (p : X → Bool) (x : X) (xs : List X) (a : Bool) (zs : List X) → filter p xs ≡ zs →
+    filter p (cond a (x ∷ xs) xs) ≡ cond (a && p x) (x ∷ zs) zs
 filter_twice_step p x xs true zs e = filter_same_step x (filter p xs) zs (p x) (p x) refl e
 filter_twice_step p x xs false zs e = e
 
@@ -74,7 +76,8 @@ pub Each-filter : {X : Type 0} (P : X → Type 0) (p : X → Bool) (xs : List X)
 Each-filter P p [] h = tt
 Each-filter P p (x ∷ xs) h = Each-cond P (p x) x (filter p xs) h.0 (Each-filter P p xs h.1)
 
-Each-cond_yes : {X : Type 0} (p : X → Bool) (a : Bool) (x : X) (xs : List X) → p x ≡ a → Each (λ x. p x ≡ true) xs → Each (λ x. p x ≡ true) (cond a (x ∷ xs) xs)
+Each-cond_yes : {X : Type 0} (p : X → Bool) (a : Bool) (x : X) (xs : List X) → p x ≡ a → Each (λ x. p x ≡ true) xs →
+    Each (λ x. p x ≡ true) (cond a (x ∷ xs) xs)
 Each-cond_yes p true x xs h k = (h, k)
 Each-cond_yes p false x xs h k = k
 

@@ -66,7 +66,8 @@ abbrev InOrder : List HeldLatch → Type 0
 InOrder [] = Unit {0}
 InOrder (y ∷ ys) = NoneBefore y ys × InOrder ys
 
-none_before_with_step : (x y z : HeldLatch) (ys ws : List HeldLatch) (b : Bool) → comes_first x z ≡ false → comes_first y z ≡ false → NoneBefore z ys → NoneBefore z ws → NoneBefore z (cond b (y ∷ ws) (x ∷ y ∷ ys))
+none_before_with_step : (x y z : HeldLatch) (ys ws : List HeldLatch) (b : Bool) → comes_first x z ≡ false → comes_first y z ≡ false →
+    NoneBefore z ys → NoneBefore z ws → NoneBefore z (cond b (y ∷ ws) (x ∷ y ∷ ys))
 none_before_with_step x y z ys ws true e f h k = (f, k)
 none_before_with_step x y z ys ws false e f h k = (e, (f, h))
 
@@ -78,7 +79,8 @@ none_before_with x z (y ∷ ys) e h =
 still_none : (x y : HeldLatch) (ys : List HeldLatch) → comes_first y x ≡ false → NoneBefore y ys → NoneBefore x ys
 still_none x y ys e h = Each-map (λ z. comes_first z y ≡ false) (λ z. comes_first z x ≡ false) (λ z k. not_first_again z y x k e) ys h
 
-in_order_with_step : (x y : HeldLatch) (ys ws : List HeldLatch) (b : Bool) → comes_first y x ≡ b → NoneBefore y ys → InOrder ys → InOrder ws → (comes_first x y ≡ false → NoneBefore y ws) → InOrder (cond b (y ∷ ws) (x ∷ y ∷ ys))
+in_order_with_step : (x y : HeldLatch) (ys ws : List HeldLatch) (b : Bool) → comes_first y x ≡ b → NoneBefore y ys → InOrder ys → InOrder ws →
+    (comes_first x y ≡ false → NoneBefore y ws) → InOrder (cond b (y ∷ ws) (x ∷ y ∷ ys))
 in_order_with_step x y ys ws true e h o i n = (n (first_once y x e), i)
 in_order_with_step x y ys ws false e h o i n = ((e, still_none x y ys e h), (h, o))
 
@@ -95,7 +97,8 @@ with_first : (x : HeldLatch) (ys : List HeldLatch) → NoneBefore x ys → with_
 with_first x [] h = refl
 with_first x (y ∷ ys) h = ap (λ b. cond b (y ∷ with_latch x ys) (x ∷ y ∷ ys)) h.0
 
-filter_with_later : (p : HeldLatch → Bool) (x y : HeldLatch) (ws zs : List HeldLatch) (a q : Bool) → comes_first y x ≡ true → filter p ws ≡ cond q (with_latch x zs) zs → cond a (y ∷ filter p ws) (filter p ws) ≡ cond q (with_latch x (cond a (y ∷ zs) zs)) (cond a (y ∷ zs) zs)
+filter_with_later : (p : HeldLatch → Bool) (x y : HeldLatch) (ws zs : List HeldLatch) (a q : Bool) → comes_first y x ≡ true →
+    filter p ws ≡ cond q (with_latch x zs) zs → cond a (y ∷ filter p ws) (filter p ws) ≡ cond q (with_latch x (cond a (y ∷ zs) zs)) (cond a (y ∷ zs) zs)
 filter_with_later p x y ws zs true true e f = ap (λ us. y ∷ us) f ∙ sym (ap (λ b. cond b (y ∷ with_latch x zs) (x ∷ y ∷ zs)) e)
 filter_with_later p x y ws zs true false e f = ap (λ us. y ∷ us) f
 filter_with_later p x y ws zs false q e f = f
@@ -104,13 +107,16 @@ filter_with_first : (x : HeldLatch) (zs : List HeldLatch) (q : Bool) → NoneBef
 filter_with_first x zs true h = sym (with_first x zs h)
 filter_with_first x zs false h = refl
 
-filter_with_step : (p : HeldLatch → Bool) (x y : HeldLatch) (ys ws : List HeldLatch) (b : Bool) → comes_first y x ≡ b → NoneBefore y ys → filter p ws ≡ cond (p x) (with_latch x (filter p ys)) (filter p ys) → filter p (cond b (y ∷ ws) (x ∷ y ∷ ys)) ≡ cond (p x) (with_latch x (filter p (y ∷ ys))) (filter p (y ∷ ys))
+filter_with_step : (p : HeldLatch → Bool) (x y : HeldLatch) (ys ws : List HeldLatch) (b : Bool) → comes_first y x ≡ b → NoneBefore y ys →
+    filter p ws ≡ cond (p x) (with_latch x (filter p ys)) (filter p ys) →
+    filter p (cond b (y ∷ ws) (x ∷ y ∷ ys)) ≡ cond (p x) (with_latch x (filter p (y ∷ ys))) (filter p (y ∷ ys))
 filter_with_step p x y ys ws true e h f = filter_with_later p x y ws (filter p ys) (p y) (p x) e f
 filter_with_step p x y ys ws false e h f =
     let k : NoneBefore x (y ∷ ys) = (e, still_none x y ys e h) in
     filter_with_first x (filter p (y ∷ ys)) (p x) (Each-filter (λ z. comes_first z x ≡ false) p (y ∷ ys) k)
 
-filter_with : (p : HeldLatch → Bool) (x : HeldLatch) (ys : List HeldLatch) → InOrder ys → filter p (with_latch x ys) ≡ cond (p x) (with_latch x (filter p ys)) (filter p ys)
+filter_with : (p : HeldLatch → Bool) (x : HeldLatch) (ys : List HeldLatch) → InOrder ys →
+    filter p (with_latch x ys) ≡ cond (p x) (with_latch x (filter p ys)) (filter p ys)
 filter_with p x [] h = refl
 filter_with p x (y ∷ ys) h = filter_with_step p x y ys (with_latch x ys) (comes_first y x) refl h.0 (filter_with p x ys h.1)
 

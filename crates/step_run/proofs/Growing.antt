@@ -54,7 +54,8 @@ begun_is (Begun id lane who mode request ∷ h) k = ap (λ b. (id == k) || b) (b
 begun_is (Ended id who grant poison fault ∷ h) k = begun_is h k
 
 -- what has just begun is found
-find-append_none_step : {X : Type 0} (p : X → Bool) (x : X) (xs ys : List X) (b : Bool) → (b || list_any p xs) ≡ false → (list_any p xs ≡ false → find p (xs ++ ys) ≡ find p ys) → cond b (Some x) (find p (xs ++ ys)) ≡ find p ys
+find-append_none_step : {X : Type 0} (p : X → Bool) (x : X) (xs ys : List X) (b : Bool) → (b || list_any p xs) ≡ false →
+    (list_any p xs ≡ false → find p (xs ++ ys) ≡ find p ys) → cond b (Some x) (find p (xs ++ ys)) ≡ find p ys
 find-append_none_step p x xs ys true e f = absurd (cc)
 find-append_none_step p x xs ys false e f = f e
 
@@ -68,17 +69,21 @@ latches_of-append h t k e = let b = begun_of h k e in latches_of_begun h t k b.0
 pub in_front-append : (h t : List Entry) (k : ℕ) → has_begun h k ≡ true → in_front (h ++ t) k ≡ in_front h k
 in_front-append h t k e = let b = begun_of h k e in in_front_of_begun h t k b.0 b.1
 
-pub latches_of_new : (h : List Entry) (id lane who : ℕ) (mode : Mode) (request : Declaration) → has_begun h id ≡ false → latches_of (h ++ Begun id lane who mode request ∷ []) id ≡ request.latches
+pub latches_of_new : (h : List Entry) (id lane who : ℕ) (mode : Mode) (request : Declaration) → has_begun h id ≡ false →
+    latches_of (h ++ Begun id lane who mode request ∷ []) id ≡ request.latches
 latches_of_new h id lane who mode request e =
-    ap (λ bs. option_map_or (λ (b : Begin). b.request.latches) (find (λ (b : Begin). b.id == id) bs) []) (begins-append h (Begun id lane who mode request ∷ []))
+    ap (λ bs. option_map_or (λ (b : Begin). b.request.latches) (find (λ (b : Begin). b.id == id) bs) [])
+    (begins-append h (Begun id lane who mode request ∷ []))
     ∙ ap (λ o. option_map_or (λ (b : Begin). b.request.latches) o []) (find-append_none (λ (b : Begin). b.id == id) (begins h) _ (sym (begun_is h id) ∙ e))
-    ∙ ap (λ b. option_map_or (λ (b : Begin). b.request.latches) (cond b (Some (record { id = id; lane = lane; who = who; mode = mode; request = request })) None) []) (eq-eqb id id refl)
+    ∙ ap (λ b. option_map_or (λ (b : Begin). b.request.latches) (cond b
+    (Some (record { id = id; lane = lane; who = who; mode = mode; request = request })) None) []) (eq-eqb id id refl)
 
 -- the entries in front of the first that passes
 abbrev before_first : {X : Type 0} → (X → Bool) → List X → List X
 before_first q xs = take_while (λ x. not (q x)) xs
 
-all_before_step : {X : Type 0} (q : X → Bool) (x : X) (xs zs : List X) (b : Bool) → (b || list_any q xs) ≡ false → (list_any q xs ≡ false → before_first q zs ≡ xs) → cond (not b) (x ∷ before_first q zs) [] ≡ x ∷ xs
+all_before_step : {X : Type 0} (q : X → Bool) (x : X) (xs zs : List X) (b : Bool) → (b || list_any q xs) ≡ false →
+    (list_any q xs ≡ false → before_first q zs ≡ xs) → cond (not b) (x ∷ before_first q zs) [] ≡ x ∷ xs
 all_before_step q x xs zs true e f = absurd (cc)
 all_before_step q x xs zs false e f = ap (λ us. x ∷ us) (f e)
 
@@ -88,7 +93,8 @@ all_before q (x ∷ xs) y ys e f =
     take_while-cons (λ x. not (q x)) x (xs ++ y ∷ ys)
     ∙ all_before_step q x xs (xs ++ y ∷ ys) (q x) e (λ k. all_before q xs y ys k f)
 
-pub in_front_new : (h : List Entry) (id lane who : ℕ) (mode : Mode) (request : Declaration) → has_begun h id ≡ false → in_front (h ++ Begun id lane who mode request ∷ []) id ≡ h
+pub in_front_new : (h : List Entry) (id lane who : ℕ) (mode : Mode) (request : Declaration) → has_begun h id ≡ false →
+    in_front (h ++ Begun id lane who mode request ∷ []) id ≡ h
 in_front_new h id lane who mode request e = all_before (is_begin id) h (Begun id lane who mode request) [] e (eq-eqb id id refl)
 
 -- what has begun in front has begun
@@ -106,11 +112,13 @@ begun_in_front h k =
     let whole : in_front h k ++ drop n h ≡ h = take-append-drop n h in
     let same : begins (in_front h k) ++ begins (drop n h) ≡ begins h = sym (begins-append (in_front h k) (drop n h)) ∙ ap begins whole in
     Each-map (λ b. list_any (λ c. c.id == b.id) (begins (in_front h k)) ≡ true) (λ b. has_begun h b.id ≡ true)
-    (λ b e. begun_is h b.id ∙ ap (λ bs. list_any (λ (c : Begin). c.id == b.id) bs) (sym same) ∙ list_any-append (λ (c : Begin). c.id == b.id) (begins (in_front h k)) (begins (drop n h)) ∙ or_left _ _ e)
+    (λ b e. begun_is h b.id ∙ ap (λ bs. list_any (λ (c : Begin). c.id == b.id) bs) (sym same)
+    ∙ list_any-append (λ (c : Begin). c.id == b.id) (begins (in_front h k)) (begins (drop n h)) ∙ or_left _ _ e)
     (begins (in_front h k)) (each_self (begins (in_front h k)))
 
 pub begins_self : (h : List Entry) → Each (λ b. has_begun h b.id ≡ true) (begins h)
-begins_self h = Each-map (λ b. list_any (λ c. c.id == b.id) (begins h) ≡ true) (λ b. has_begun h b.id ≡ true) (λ b e. begun_is h b.id ∙ e) (begins h) (each_self (begins h))
+begins_self h = Each-map (λ b. list_any (λ c. c.id == b.id) (begins h) ≡ true) (λ b. has_begun h b.id ≡ true) (λ b e. begun_is h b.id ∙ e) (begins h)
+    (each_self (begins h))
 
 -- the open begins
 pub open_is : (h : List Entry) (k : ℕ) → list_any (λ b. b.id == k) (open_begins h) ≡ (has_begun h k && not (has_ended h k))
@@ -124,12 +132,15 @@ open_is h k =
     agree [] = tt
     agree (b ∷ bs) = (eq_and b.id k (λ j. not (has_ended h j)) (b.id == k) refl, agree bs)
 
-open_same : (h : List Entry) (e : Entry) → ((k : ℕ) → is_end k e ≡ false) → (bs : List Begin) → filter (λ (b : Begin). not (has_ended (h ++ e ∷ []) b.id)) bs ≡ filter (λ (b : Begin). not (has_ended h b.id)) bs
+open_same : (h : List Entry) (e : Entry) → ((k : ℕ) → is_end k e ≡ false) → (bs : List Begin) →
+    filter (λ (b : Begin). not (has_ended (h ++ e ∷ []) b.id)) bs ≡ filter (λ (b : Begin). not (has_ended h b.id)) bs
 open_same h e f bs =
     filter_agree (λ (b : Begin). not (has_ended (h ++ e ∷ []) b.id)) (λ (b : Begin). not (has_ended h b.id))
     (λ b. ap not (has_ended-append h (e ∷ []) b.id ∙ ap (λ c. has_ended h b.id || (c || false)) (f b.id) ∙ or_false (has_ended h b.id))) bs
 
-pub open_begins_begun : (h : List Entry) (id lane who : ℕ) (mode : Mode) (request : Declaration) → has_ended h id ≡ false → open_begins (h ++ Begun id lane who mode request ∷ []) ≡ open_begins h ++ (record { id = id; lane = lane; who = who; mode = mode; request = request }) ∷ []
+pub open_begins_begun : (h : List Entry) (id lane who : ℕ) (mode : Mode) (request : Declaration) → has_ended h id ≡ false →
+    open_begins (h ++ Begun id lane who mode request ∷ []) ≡ open_begins h ++
+    (record { id = id; lane = lane; who = who; mode = mode; request = request }) ∷ []
 open_begins_begun h id lane who mode request e =
     let b : Begin = record { id = id; lane = lane; who = who; mode = mode; request = request } in
     open_same h (Begun id lane who mode request) (λ k. refl) (begins (h ++ Begun id lane who mode request ∷ []))
@@ -137,10 +148,13 @@ open_begins_begun h id lane who mode request e =
     ∙ filter-append (λ (b : Begin). not (has_ended h b.id)) (begins h) (b ∷ [])
     ∙ ap (λ bs. open_begins h ++ bs) (filter_yes (λ (b : Begin). not (has_ended h b.id)) b [] (ap not e))
 
-pub open_begins_ended : (h : List Entry) (id who : ℕ) (grant : Grant) (poison : Cause) (fault : Fault) → open_begins (h ++ Ended id who grant poison fault ∷ []) ≡ filter (λ b. not (id == b.id)) (open_begins h)
+pub open_begins_ended : (h : List Entry) (id who : ℕ) (grant : Grant) (poison : Cause) (fault : Fault) →
+    open_begins (h ++ Ended id who grant poison fault ∷ []) ≡ filter (λ b. not (id == b.id)) (open_begins h)
 open_begins_ended h id who grant poison fault =
     ap (λ bs. filter (λ (b : Begin). not (has_ended (h ++ Ended id who grant poison fault ∷ []) b.id)) bs)
     (begins-append h (Ended id who grant poison fault ∷ []) ∙ append-nil (begins h))
-    ∙ filter_agree (λ (b : Begin). not (has_ended (h ++ Ended id who grant poison fault ∷ []) b.id)) (λ (b : Begin). not (has_ended h b.id) && not (id == b.id))
-    (λ b. ap not (has_ended-append h (Ended id who grant poison fault ∷ []) b.id ∙ ap (λ c. has_ended h b.id || c) (or_false (id == b.id))) ∙ not_or (has_ended h b.id) (id == b.id)) (begins h)
+    ∙ filter_agree (λ (b : Begin). not (has_ended (h ++ Ended id who grant poison fault ∷ []) b.id))
+    (λ (b : Begin). not (has_ended h b.id) && not (id == b.id))
+    (λ b. ap not (has_ended-append h (Ended id who grant poison fault ∷ []) b.id ∙ ap (λ c. has_ended h b.id || c) (or_false (id == b.id)))
+    ∙ not_or (has_ended h b.id) (id == b.id)) (begins h)
     ∙ sym (filter-filter (λ (b : Begin). not (id == b.id)) (λ (b : Begin). not (has_ended h b.id)) (begins h))

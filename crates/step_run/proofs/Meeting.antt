@@ -19,7 +19,8 @@ use Rattle.latch_model.proofs.LatchLaws.{conflict-at_normal}
 use Rattle.latch_model.proofs.Meeting.{Captured, captured_own as own_is_captured, list_of-snapshot}
 use Rattle.latch_model.proofs.SnapshotOrder.{filter-in_order}
 use Rattle.step_run.specs.Running.{first_for, first_in, first_met, first_of, first_waiting, meets}
-use Rattle.latch_model.proofs.Elements.{Each, Each-append, Each-filter, Each-from_In, Each-map, filter-filter, filter-map, head, head-append, option_map-or, option_or_assoc}
+use Rattle.latch_model.proofs.Elements.{Each, Each-append, Each-filter, Each-from_In, Each-map, filter-filter, filter-map, head, head-append}
+use Rattle.latch_model.proofs.Elements.{option_map-or, option_or_assoc}
 use Rattle.step_run.proofs.Order.{first_of-listed, first_of-unlaned, head-in_order, unlaned}
 
 -- what conflicts with a latch is in its scope
@@ -56,7 +57,8 @@ module _ (q : ℕ → Bool) (ls : List HeldLatch) (access : Access) (l : Latch) 
   chosen_is =
       ap (λ xs. filter passes xs) (filter-map listed conflicting (filter of_list ls))
       ∙ filter-map listed passes (filter (λ x. conflicting (listed x)) (filter of_list ls))
-      ∙ ap (λ xs. map listed (filter passes xs)) (filter_agree (λ x. conflicting (listed x)) conflicting (λ x. conflict-at_normal l x.latch) (filter of_list ls))
+      ∙ ap (λ xs. map listed (filter passes xs)) (filter_agree (λ x. conflicting (listed x)) conflicting (λ x. conflict-at_normal l x.latch)
+      (filter of_list ls))
       ∙ ap (λ xs. map listed (filter passes xs)) (filter-filter conflicting of_list ls)
       ∙ ap (λ xs. map listed xs) (filter-filter passes (λ x. of_list x && conflicting x) ls)
       ∙ ap (λ xs. map listed xs) (filter_agree (λ x. (of_list x && conflicting x) && passes x) met_here
@@ -127,7 +129,8 @@ met_first h k q (l ∷ ls) c =
 
 each_waiting : (P : Latch → Type 0) (ls : List Latch) → Each P ls → Each P (in_waiting_order ls)
 each_waiting P ls e =
-    let part : (scope : Scope) (access : Access) → Each P (those_of scope access ls) = λ scope access. Each-filter P (λ l. in_scope scope l && has_access access l) ls e in
+    let part : (scope : Scope) (access : Access) → Each P (those_of scope access ls) = λ scope access. Each-filter P
+    (λ l. in_scope scope l && has_access access l) ls e in
     Each-append P (those_of Global Read ls ++ those_of Global Write ls ++ those_of Local Read ls) (those_of Local Write ls)
     (Each-append P (those_of Global Read ls ++ those_of Global Write ls) (those_of Local Read ls)
     (Each-append P (those_of Global Read ls) (those_of Global Write ls) (part Global Read) (part Global Write)) (part Local Read)) (part Local Write)
@@ -140,7 +143,8 @@ pub captured_declared : (own asks : List Latch) → Each (λ l. is_declared own 
 captured_declared own asks e = Each-map (λ l. is_declared own l ≡ true) (Captured own) (captured_if_declared own) asks e
 
 -- what is met first among joined latches
-first_met-append : (q : HeldLatch → Bool) (held_before : List HeldLatch) (ls ms : List Latch) → first_met q held_before (ls ++ ms) ≡ option_or (first_met q held_before ls) (first_met q held_before ms)
+first_met-append : (q : HeldLatch → Bool) (held_before : List HeldLatch) (ls ms : List Latch) →
+    first_met q held_before (ls ++ ms) ≡ option_or (first_met q held_before ls) (first_met q held_before ms)
 first_met-append q held_before [] ms = refl
 first_met-append q held_before (l ∷ ls) ms =
     ap (λ o. option_or (first_for q held_before l) o) (first_met-append q held_before ls ms)
@@ -151,12 +155,16 @@ waiting_parts None None c d = refl
 waiting_parts None (Some x) c d = refl
 waiting_parts (Some x) b c d = refl
 
-first_met_waiting : (q : HeldLatch → Bool) (held_before : List HeldLatch) (asks : List Latch) → first_met q held_before (in_waiting_order asks) ≡ first_waiting q held_before asks
+first_met_waiting : (q : HeldLatch → Bool) (held_before : List HeldLatch) (asks : List Latch) →
+    first_met q held_before (in_waiting_order asks) ≡ first_waiting q held_before asks
 first_met_waiting q held_before asks =
     first_met-append q held_before (those_of Global Read asks ++ those_of Global Write asks ++ those_of Local Read asks) (those_of Local Write asks)
-    ∙ ap (λ o. option_or o (first_met q held_before (those_of Local Write asks))) (first_met-append q held_before (those_of Global Read asks ++ those_of Global Write asks) (those_of Local Read asks)
-    ∙ ap (λ o. option_or o (first_met q held_before (those_of Local Read asks))) (first_met-append q held_before (those_of Global Read asks) (those_of Global Write asks)))
-    ∙ waiting_parts (first_met q held_before (those_of Global Read asks)) (first_met q held_before (those_of Global Write asks)) (first_met q held_before (those_of Local Read asks)) (first_met q held_before (those_of Local Write asks))
+    ∙ ap (λ o. option_or o (first_met q held_before (those_of Local Write asks)))
+    (first_met-append q held_before (those_of Global Read asks ++ those_of Global Write asks) (those_of Local Read asks)
+    ∙ ap (λ o. option_or o (first_met q held_before (those_of Local Read asks)))
+    (first_met-append q held_before (those_of Global Read asks) (those_of Global Write asks)))
+    ∙ waiting_parts (first_met q held_before (those_of Global Read asks)) (first_met q held_before (those_of Global Write asks))
+    (first_met q held_before (those_of Local Read asks)) (first_met q held_before (those_of Local Write asks))
 
 -- What is met first, without its lane: the first that is met among the held latches, listed with its normal stamp.
 pub meeting : (h : List Entry) (k : ℕ) (q : ℕ → Bool) (asks : List Latch) → Each (Captured (latches_of h k)) asks →

@@ -82,7 +82,8 @@ first_of-next p q xs x = ap first_of (filter-append (λ y. p y && q y) xs (x ∷
     before : List HeldLatch
     before = filter (λ y. p y && q y) xs
 
-    by : (a b : Bool) → first_of (before ++ cond (a && b) (x ∷ []) []) ≡ cond a (cond b (Some (first_yet (first_of before) x)) (first_of before)) (first_of before)
+    by : (a b : Bool) → first_of (before ++ cond (a && b) (x ∷ []) []) ≡ cond a (cond b (Some (first_yet (first_of before) x)) (first_of before))
+        (first_of before)
     by true true = first_of-push before x
     by true false = ap first_of (append-nil before)
     by false b = ap first_of (append-nil before)

@@ -1,5 +1,6 @@
 -- Lists with one element in a new form, or without it.
-use Rattle.std.proofs.Common.{◌≡◌, ℕ, zero, suc, ◌+◌, ◌<◌, ◌≤◌, Bool, true, false, not, cond, ◌==◌, List, [], ◌∷◌, ◌++◌, map, length, get_or, Option, Some, None, refl, sym, ap, ◌∙◌, arith}
+use Rattle.std.proofs.Common.{◌≡◌, ℕ, zero, suc, ◌+◌, ◌<◌, ◌≤◌, Bool, true, false, not, cond, ◌==◌, List, [], ◌∷◌, ◌++◌, map, length, get_or, Option}
+use Rattle.std.proofs.Common.{Some, None, refl, sym, ap, ◌∙◌, arith}
 use Rattle.std.specs.Prelude.{nat_lt, slice_get, slice_set}
 use Rattle.std.specs.Option.{option_and_then}
 use Rattle.std.specs.List.{filter, find, position, position_or_len, remove}
@@ -97,7 +98,8 @@ more_step : {X Y : Type 0} (f : X → Y) (z : X) (xs ys : List X) (a : Bool) →
 more_step f z xs ys true e = ap (λ us. f z ∷ us) e
 more_step f z xs ys false e = e
 
-pub map-filter-set : {X Y : Type 0} (f : X → Y) (p : X → Bool) (xs : List X) (i : ℕ) (x y : X) → slice_get xs i ≡ Some x → f y ≡ f x → p y ≡ p x → map f (filter p (slice_set xs i y)) ≡ map f (filter p xs)
+pub map-filter-set : {X Y : Type 0} (f : X → Y) (p : X → Bool) (xs : List X) (i : ℕ) (x y : X) → slice_get xs i ≡ Some x → f y ≡ f x → p y ≡ p x →
+    map f (filter p (slice_set xs i y)) ≡ map f (filter p xs)
 map-filter-set f p [] i x y e g q = refl
 map-filter-set f p (z ∷ zs) zero x y e g q = kept_step f z y (filter p zs) (p y) (p z) (g ∙ ap f (cc)) (q ∙ ap p (cc))
 map-filter-set f p (z ∷ zs) (suc i) x y e g q = more_step f z (filter p (slice_set zs i y)) (filter p zs) (p z) (map-filter-set f p zs i x y e g q)
@@ -137,18 +139,21 @@ filter_all : {X : Type 0} (p : X → Bool) (xs : List X) → Each (λ x. p x ≡
 filter_all p [] h = refl
 filter_all p (x ∷ xs) h = filter_yes p x xs h.0 ∙ ap (λ us. x ∷ us) (filter_all p xs h.1)
 
-pub drop_self : {X : Type 0} (f : X → ℕ) (n : ℕ) (x : X) (xs : List X) (a : Bool) → f x ≡ n → Each (λ y. (n == f y) ≡ false) xs → filter (λ y. not (n == f y)) (cond a (x ∷ xs) xs) ≡ xs
+pub drop_self : {X : Type 0} (f : X → ℕ) (n : ℕ) (x : X) (xs : List X) (a : Bool) → f x ≡ n → Each (λ y. (n == f y) ≡ false) xs →
+    filter (λ y. not (n == f y)) (cond a (x ∷ xs) xs) ≡ xs
 drop_self f n x xs true e h =
     filter_no (λ y. not (n == f y)) x xs (ap not (eq-eqb n (f x) (sym e)))
     ∙ filter_all (λ y. not (n == f y)) xs (Each-map (λ y. (n == f y) ≡ false) (λ y. not (n == f y) ≡ true) (λ y g. ap not g) xs h)
 drop_self f n x xs false e h = filter_all (λ y. not (n == f y)) xs (Each-map (λ y. (n == f y) ≡ false) (λ y. not (n == f y) ≡ true) (λ y g. ap not g) xs h)
 
-keep_step : {X : Type 0} (q : X → Bool) (z : X) (xs ys : List X) (a : Bool) → q z ≡ true → xs ≡ filter q ys → cond a (z ∷ xs) xs ≡ filter q (cond a (z ∷ ys) ys)
+keep_step : {X : Type 0} (q : X → Bool) (z : X) (xs ys : List X) (a : Bool) → q z ≡ true → xs ≡ filter q ys →
+    cond a (z ∷ xs) xs ≡ filter q (cond a (z ∷ ys) ys)
 keep_step q z xs ys true g e = ap (λ us. z ∷ us) e ∙ sym (filter_yes q z ys g)
 keep_step q z xs ys false g e = e
 
 -- where the element of a number no longer passes, the filter keeps the others
-pub filter_over : {X : Type 0} (f : X → ℕ) (p : X → Bool) (xs : List X) (i : ℕ) (x y : X) → slice_get xs i ≡ Some x → Rising (map f xs) → p y ≡ false → filter p (slice_set xs i y) ≡ filter (λ z. not (f x == f z)) (filter p xs)
+pub filter_over : {X : Type 0} (f : X → ℕ) (p : X → Bool) (xs : List X) (i : ℕ) (x y : X) → slice_get xs i ≡ Some x → Rising (map f xs) →
+    p y ≡ false → filter p (slice_set xs i y) ≡ filter (λ z. not (f x == f z)) (filter p xs)
 filter_over f p [] i x y e r q = absurd (cc)
 filter_over f p (z ∷ zs) zero x y e r q =
     let g : z ≡ x = cc in
@@ -161,7 +166,8 @@ filter_over f p (z ∷ zs) (suc i) x y e r q =
     (ap not (ne_eqb (f x) (f z) (λ g. absurd (omega arith)))) (filter_over f p zs i x y e r.1 q)
 
 -- the first that passes, by its place
-find_step : {X : Type 0} (p : X → Bool) (x : X) (xs : List X) (n : ℕ) (b : Bool) → find p xs ≡ slice_get xs n → cond b (Some x) (find p xs) ≡ slice_get (x ∷ xs) (cond (not b) (1 + n) 0)
+find_step : {X : Type 0} (p : X → Bool) (x : X) (xs : List X) (n : ℕ) (b : Bool) → find p xs ≡ slice_get xs n →
+    cond b (Some x) (find p xs) ≡ slice_get (x ∷ xs) (cond (not b) (1 + n) 0)
 find_step p x xs n true e = refl
 find_step p x xs n false e = e ∙ sym (ap (λ m. slice_get (x ∷ xs) m) (one_more n))
   where
@@ -177,7 +183,8 @@ get_past [] i h = refl
 get_past (x ∷ xs) zero h = absurd (omega arith)
 get_past (x ∷ xs) (suc i) h = get_past xs i (omega arith)
 
-by_place_step : {X : Type 0} (o : Option X) (xs : List X) (i : ℕ) (b : Bool) → nat_lt i (length xs) ≡ b → o ≡ slice_get xs i → o ≡ option_and_then (λ j. slice_get xs j) (cond b (Some i) None)
+by_place_step : {X : Type 0} (o : Option X) (xs : List X) (i : ℕ) (b : Bool) → nat_lt i (length xs) ≡ b → o ≡ slice_get xs i →
+    o ≡ option_and_then (λ j. slice_get xs j) (cond b (Some i) None)
 by_place_step o xs i true e f = f
 by_place_step o xs i false e f = f ∙ get_past xs i (ltb-false i (length xs) e)
 
@@ -195,7 +202,8 @@ position_map f p xs =
     let l : length (map f xs) ≡ length xs = length-map xs f in
     cc
 
-pub position_found : {X : Type 0} (q : X → Bool) (xs : List X) (i : ℕ) (d : X) → i < length xs → ((k : ℕ) → k < i → q (get_or xs k d) ≡ false) → q (get_or xs i d) ≡ true → position q xs ≡ Some i
+pub position_found : {X : Type 0} (q : X → Bool) (xs : List X) (i : ℕ) (d : X) → i < length xs → ((k : ℕ) → k < i → q (get_or xs k d) ≡ false) →
+    q (get_or xs i d) ≡ true → position q xs ≡ Some i
 position_found q xs i d l f t =
     let e : position_or_len q xs ≡ i = position_or_len_is q xs i d (omega arith) f (λ h. t) in
     ap (λ n. cond (nat_lt n (length xs)) (Some n) None) e ∙ ap (λ b. cond b (Some i) None) (lt-ltb i (length xs) l)
@@ -203,5 +211,7 @@ position_found q xs i d l f t =
 pub position_none : {X : Type 0} (q : X → Bool) (xs : List X) → ((k : ℕ) (d : X) → k < length xs → q (get_or xs k d) ≡ false) → position q xs ≡ None
 position_none q [] f = refl
 position_none q (x ∷ xs) f =
-    let e : position_or_len q (x ∷ xs) ≡ length (x ∷ xs) = position_or_len_is q (x ∷ xs) (length (x ∷ xs)) x (omega arith) (λ k l. f k x l) (λ h. absurd (omega arith)) in
-    ap (λ n. cond (nat_lt n (length (x ∷ xs))) (Some n) None) e ∙ ap (λ b. cond b (Some (length (x ∷ xs))) None) (le-ltb (length (x ∷ xs)) (length (x ∷ xs)) (omega arith))
+    let e : position_or_len q (x ∷ xs) ≡ length (x ∷ xs) = position_or_len_is q (x ∷ xs) (length (x ∷ xs)) x (omega arith) (λ k l. f k x l)
+    (λ h. absurd (omega arith)) in
+    ap (λ n. cond (nat_lt n (length (x ∷ xs))) (Some n) None) e ∙ ap (λ b. cond b (Some (length (x ∷ xs))) None)
+    (le-ltb (length (x ∷ xs)) (length (x ∷ xs)) (omega arith))

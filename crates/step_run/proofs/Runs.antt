@@ -17,7 +17,8 @@ reached cs = (run start cs).state
 abbrev pub written_by : List Command → List ℕ
 written_by cs = (run start cs).written
 
-run_push : (s : State) (cs : List Command) (c : Command) → run s (cs ++ c ∷ []) ≡ after (run s cs).written (after (one (run s cs).state c).written (silent (next_line (one (run s cs).state c).state)))
+run_push : (s : State) (cs : List Command) (c : Command) → run s (cs ++ c ∷ []) ≡ after (run s cs).written
+    (after (one (run s cs).state c).written (silent (next_line (one (run s cs).state c).state)))
 run_push s [] c = refl
 run_push s (x ∷ xs) c =
     ap (λ t. after (one s x).written t) (run_push (next_line (one s x).state) xs c)
@@ -41,11 +42,15 @@ pub record StandsAfter (cs : List Command) (r : StepRun) (out : List ℕ) : Type
   pub kept : seen_run r ≡ running_of (reached cs)
   pub written : out ≡ written_by cs
 
-pub stands_next : (cs : List Command) (i : ℕ) (c : Command) (r new : StepRun) (out more : List ℕ) → i < length cs → c ≡ get_or cs i c → StandsAfter (take i cs) r out → StepsTo (one_now (seen_run r) c) new out more → StandsAfter (take (i + 1) cs) new more
+pub stands_next : (cs : List Command) (i : ℕ) (c : Command) (r new : StepRun) (out more : List ℕ) → i < length cs → c ≡ get_or cs i c →
+    StandsAfter (take i cs) r out → StepsTo (one_now (seen_run r) c) new out more → StandsAfter (take (i + 1) cs) new more
 stands_next cs i c r new out more l e s h =
-    let next : Agrees (one (reached (take i cs)) c) (one_now (running_of (reached (take i cs))) c) = one_agrees (reached (take i cs)) c (reached_valid (take i cs)) in
+    let next : Agrees (one (reached (take i cs)) c) (one_now (running_of (reached (take i cs))) c) = one_agrees (reached (take i cs)) c
+    (reached_valid (take i cs)) in
     let longer : take (i + 1) cs ≡ take i cs ++ c ∷ [] = take_more cs i c l ∙ ap (λ d. take i cs ++ d ∷ []) (sym e) in
-    let pushed : run start (take (i + 1) cs) ≡ after (written_by (take i cs)) (after (one (reached (take i cs)) c).written (silent (next_line (one (reached (take i cs)) c).state))) = ap (λ ds. run start ds) longer ∙ run_push start (take i cs) c in
+    let pushed : run start (take (i + 1) cs) ≡ after (written_by (take i cs))
+    (after (one (reached (take i cs)) c).written (silent (next_line (one (reached (take i cs)) c).state))) = ap (λ ds. run start ds) longer
+    ∙ run_push start (take i cs) c in
     record {
       kept = h.leaves ∙ ap (λ q. (one_now q c).run) s.kept ∙ sym next.run ∙ sym (ap (λ (t : Step). running_of t.state) pushed);
       written = h.written ∙ ap (λ w. w ++ (one_now (seen_run r) c).written) s.written

@@ -1,5 +1,6 @@
 -- What is kept of a state, and which states a run comes to.
-use Rattle.std.proofs.Common.{◌≡◌, ℕ, ◌+◌, ◌<◌, ◌≤◌, Bool, true, false, not, cond, ◌||◌, ◌==◌, List, [], ◌∷◌, ◌++◌, map, length, Some, refl, sym, ap, ◌∙◌, subst, inl, inr, arith}
+use Rattle.std.proofs.Common.{◌≡◌, ℕ, ◌+◌, ◌<◌, ◌≤◌, Bool, true, false, not, cond, ◌||◌, ◌==◌, List, [], ◌∷◌, ◌++◌, map, length, Some, refl, sym, ap}
+use Rattle.std.proofs.Common.{◌∙◌, subst, inl, inr, arith}
 use Rattle.std.specs.Prelude.{slice_get, slice_set}
 use Rattle.std.specs.List.{filter, remove}
 use Rattle.std.specs.Option.{is_some}
@@ -24,12 +25,14 @@ use Rattle.latch_model.specs.Metrics.{writes_in}
 use Rattle.step_run.specs.Steps.{is_over}
 use Rattle.step_run.specs.Running.{Kept, Running}
 use Rattle.step_run.specs.declared.live.Stage.{Stage}
-use Rattle.step_run.specs.declared.live.Stage.TheVariants.{Optimistic as stage_optimistic, Pending as stage_pending, Granted as stage_granted, Over as stage_over}
+use Rattle.step_run.specs.declared.live.Stage.TheVariants.{Optimistic as stage_optimistic, Pending as stage_pending, Granted as stage_granted}
+use Rattle.step_run.specs.declared.live.Stage.TheVariants.{Over as stage_over}
 use Rattle.latch_model.proofs.Elements.{Each, Each-at_map, Each-filter, Each-map, filter-map, filter_yes, map_agree}
 use Rattle.step_run.proofs.Order.{unlaned}
 use Rattle.latch_model.proofs.Growing.{begins-append, begins-end}
 use Rattle.step_run.proofs.Growing.{has_begun-append, has_ended-append, in_front-append, latches_of-append, open_begins_begun, open_begins_ended, begins_self}
-use Rattle.step_run.proofs.Places.{Each-at, Each-remove, Each-set, Rising, Rising-push, Rising-remove, filter-remove, filter_over, map-filter-set, map-set_same}
+use Rattle.step_run.proofs.Places.{Each-at, Each-remove, Each-set, Rising, Rising-push, Rising-remove, filter-remove, filter_over, map-filter-set}
+use Rattle.step_run.proofs.Places.{map-set_same}
 
 abbrev pub stage_of : Phase → Stage
 stage_of Optimistic = stage_optimistic
@@ -110,11 +113,13 @@ pub record IsAlike (n m : Named) : Type 0 where
 brief_alike : (h : List Entry) (n m : Named) → IsAlike n m → brief_of h m ≡ brief_of h n
 brief_alike h n m a = let e : m.id ≡ n.id = a.id in let f : m.mode ≡ n.mode = a.mode in cc
 
-pub valid_set : (h : List Entry) (ns : List Named) (i : ℕ) (n m : Named) → slice_get ns i ≡ Some n → IsAlike n m → is_over m.phase ≡ is_over n.phase → Valid h ns → Valid h (slice_set ns i m)
+pub valid_set : (h : List Entry) (ns : List Named) (i : ℕ) (n m : Named) → slice_get ns i ≡ Some n → IsAlike n m → is_over m.phase ≡ is_over n.phase →
+    Valid h ns → Valid h (slice_set ns i m)
 valid_set h ns i n m at a o v = record {
   fresh = v.fresh;
   unended = v.unended;
-  begun = Each-set (λ (n : Named). has_begun h n.id ≡ true) ns i m (ap (λ j. has_begun h j) a.id ∙ Each-at (λ (n : Named). has_begun h n.id ≡ true) ns i n at v.begun) v.begun;
+  begun = Each-set (λ (n : Named). has_begun h n.id ≡ true) ns i m (ap (λ j. has_begun h j) a.id
+      ∙ Each-at (λ (n : Named). has_begun h n.id ≡ true) ns i n at v.begun) v.begun;
   rising = subst Rising (sym (map-set_same (λ (n : Named). n.id) ns i n m at a.id)) v.rising;
   rising_begins = v.rising_begins;
   going = v.going ∙ sym (map-filter-set (brief_of h) is_going ns i n m at (brief_alike h n m a) (ap not o));
@@ -127,7 +132,8 @@ begun_low h ns j v t = elim (cases_lt (length (begins h)) j) [ inl l ↦ absurd 
     both_ways : {x : Bool} → x ≡ false → x ≡ true → ⊥
     both_ways f t = cc
 
-kept_stays : (h t : List Entry) (ns : List Named) → Each (λ (n : Named). has_begun h n.id ≡ true) ns → Each (λ (n : Named). kept_of (h ++ t) n ≡ kept_of h n) ns
+kept_stays : (h t : List Entry) (ns : List Named) → Each (λ (n : Named). has_begun h n.id ≡ true) ns →
+    Each (λ (n : Named). kept_of (h ++ t) n ≡ kept_of h n) ns
 kept_stays h t [] e = tt
 kept_stays h t (n ∷ ns) e = (
   let p : latches_of (h ++ t) n.id ≡ latches_of h n.id = latches_of-append h t n.id e.0 in
@@ -136,14 +142,16 @@ kept_stays h t (n ∷ ns) e = (
   kept_stays h t ns e.1,
 )
   where
-    kept_same : (g h : List Entry) (n : Named) → latches_of g n.id ≡ latches_of h n.id → map unlaned (latches_held (in_front g n.id)) ≡ map unlaned (latches_held (in_front h n.id)) → kept_of g n ≡ kept_of h n
+    kept_same : (g h : List Entry) (n : Named) → latches_of g n.id ≡ latches_of h n.id →
+        map unlaned (latches_held (in_front g n.id)) ≡ map unlaned (latches_held (in_front h n.id)) → kept_of g n ≡ kept_of h n
     kept_same g h n p q = cc
 
 -- what is kept of the names stays while entries are added
 pub kept-append : (h t : List Entry) (ns : List Named) → Each (λ (n : Named). has_begun h n.id ≡ true) ns → map (kept_of (h ++ t)) ns ≡ map (kept_of h) ns
 kept-append h t ns e = map_agree (kept_of (h ++ t)) (kept_of h) ns (kept_stays h t ns e)
 
-brief_stays : (h t : List Entry) (ns : List Named) → Each (λ (n : Named). has_begun h n.id ≡ true) ns → Each (λ (n : Named). brief_of (h ++ t) n ≡ brief_of h n) ns
+brief_stays : (h t : List Entry) (ns : List Named) → Each (λ (n : Named). has_begun h n.id ≡ true) ns →
+    Each (λ (n : Named). brief_of (h ++ t) n ≡ brief_of h n) ns
 brief_stays h t [] e = tt
 brief_stays h t (n ∷ ns) e =
     (let p : latches_of (h ++ t) n.id ≡ latches_of h n.id = latches_of-append h t n.id e.0 in cc, brief_stays h t ns e.1)
@@ -157,7 +165,8 @@ begun_stays h t ns e =
 or_no : (a b : Bool) → a ≡ false → b ≡ false → (a || (b || false)) ≡ false
 or_no a b e f = ap (λ c. c || (b || false)) e ∙ ap (λ c. c || false) f
 
-pub valid_end : (h : List Entry) (ns : List Named) (i : ℕ) (n m : Named) (who : ℕ) (grant : Grant) (poison : Cause) (fault : Fault) → slice_get ns i ≡ Some n → m.id ≡ n.id → m.phase ≡ Over → Valid h ns → Valid (h ++ Ended n.id who grant poison fault ∷ []) (slice_set ns i m)
+pub valid_end : (h : List Entry) (ns : List Named) (i : ℕ) (n m : Named) (who : ℕ) (grant : Grant) (poison : Cause) (fault : Fault) →
+    slice_get ns i ≡ Some n → m.id ≡ n.id → m.phase ≡ Over → Valid h ns → Valid (h ++ Ended n.id who grant poison fault ∷ []) (slice_set ns i m)
 valid_end h ns i n m who grant poison fault at a o v =
     let x : Entry = Ended n.id who grant poison fault in
     let same : begins (h ++ x ∷ []) ≡ begins h = begins-end h n.id who grant poison fault in
@@ -165,8 +174,10 @@ valid_end h ns i n m who grant poison fault at a o v =
     let low : n.id ≤ length (begins h) = begun_low h ns n.id v here in
     record {
       fresh = λ j l. has_begun-append h (x ∷ []) j ∙ ap (λ b. b || false) (v.fresh j (subst (λ xs. length xs < j) same l));
-      unended = λ j l. let l2 : length (begins h) < j = subst (λ xs. length xs < j) same l in has_ended-append h (x ∷ []) j ∙ or_no (has_ended h j) (n.id == j) (v.unended j l2) (ne_eqb n.id j (λ g. absurd (omega arith)));
-      begun = Each-set (λ (n : Named). has_begun (h ++ x ∷ []) n.id ≡ true) ns i m (ap (λ j. has_begun (h ++ x ∷ []) j) a ∙ has_begun-append h (x ∷ []) n.id ∙ ap (λ b. b || false) here) (begun_stays h (x ∷ []) ns v.begun);
+      unended = λ j l. let l2 : length (begins h) < j = subst (λ xs. length xs < j) same l in has_ended-append h (x ∷ []) j
+          ∙ or_no (has_ended h j) (n.id == j) (v.unended j l2) (ne_eqb n.id j (λ g. absurd (omega arith)));
+      begun = Each-set (λ (n : Named). has_begun (h ++ x ∷ []) n.id ≡ true) ns i m
+          (ap (λ j. has_begun (h ++ x ∷ []) j) a ∙ has_begun-append h (x ∷ []) n.id ∙ ap (λ b. b || false) here) (begun_stays h (x ∷ []) ns v.begun);
       rising = subst Rising (sym (map-set_same (λ (n : Named). n.id) ns i n m at a)) v.rising;
       rising_begins = subst (λ xs. Rising (map (λ (x : Begin). x.id) xs)) (sym same) v.rising_begins;
       going =
@@ -182,7 +193,8 @@ valid_end h ns i n m who grant poison fault at a o v =
     }
 
 -- a release of a name whose request is over
-pub valid_remove : (h : List Entry) (ns : List Named) (i : ℕ) (n : Named) → slice_get ns i ≡ Some n → is_over n.phase ≡ true → Valid h ns → Valid h (remove ns i)
+pub valid_remove : (h : List Entry) (ns : List Named) (i : ℕ) (n : Named) → slice_get ns i ≡ Some n → is_over n.phase ≡ true → Valid h ns →
+    Valid h (remove ns i)
 valid_remove h ns i n at o v = record {
   fresh = v.fresh;
   unended = v.unended;
@@ -200,7 +212,9 @@ Each-push : {X : Type 0} (P : X → Type 0) (xs : List X) (y : X) → Each P xs 
 Each-push P [] y e p = (p, tt)
 Each-push P (x ∷ xs) y e p = (e.0, Each-push P xs y e.1 p)
 
-pub valid_begin : (h : List Entry) (ns : List Named) (lane who : ℕ) (mode : Mode) (request : Declaration) (m : Named) → m.id ≡ length (begins h) + 1 → m.mode ≡ mode → is_over m.phase ≡ false → latches_of (h ++ Begun (length (begins h) + 1) lane who mode request ∷ []) m.id ≡ request.latches → Valid h ns → Valid (h ++ Begun (length (begins h) + 1) lane who mode request ∷ []) (ns ++ m ∷ [])
+pub valid_begin : (h : List Entry) (ns : List Named) (lane who : ℕ) (mode : Mode) (request : Declaration) (m : Named) → m.id ≡ length (begins h) + 1 →
+    m.mode ≡ mode → is_over m.phase ≡ false → latches_of (h ++ Begun (length (begins h) + 1) lane who mode request ∷ []) m.id ≡ request.latches →
+    Valid h ns → Valid (h ++ Begun (length (begins h) + 1) lane who mode request ∷ []) (ns ++ m ∷ [])
 valid_begin h ns lane who mode request m a d o l v =
     let id : ℕ = length (begins h) + 1 in
     let x : Entry = Begun id lane who mode request in
@@ -208,19 +222,23 @@ valid_begin h ns lane who mode request m a d o l v =
     let grown : begins (h ++ x ∷ []) ≡ begins h ++ y ∷ [] = begins-append h (x ∷ []) in
     let longer : length (begins (h ++ x ∷ [])) ≡ length (begins h) + 1 = ap length grown ∙ length-append (begins h) (y ∷ []) in
     record {
-      fresh = λ j l. has_begun-append h (x ∷ []) j ∙ or_no (has_begun h j) (id == j) (v.fresh j (omega (arith, longer))) (ne_eqb id j (λ g. absurd (omega (arith, longer))));
+      fresh = λ j l. has_begun-append h (x ∷ []) j ∙ or_no (has_begun h j) (id == j) (v.fresh j (omega (arith, longer)))
+          (ne_eqb id j (λ g. absurd (omega (arith, longer))));
       unended = λ j l. has_ended-append h (x ∷ []) j ∙ ap (λ b. b || false) (v.unended j (omega (arith, longer)));
       begun = Each-push (λ (n : Named). has_begun (h ++ x ∷ []) n.id ≡ true) ns m (begun_stays h (x ∷ []) ns v.begun)
-          (ap (λ j. has_begun (h ++ x ∷ []) j) a ∙ has_begun-append h (x ∷ []) id ∙ or_right (has_begun h id) (has_begun (x ∷ []) id) (or_left (id == id) false (eq-eqb id id refl)));
+          (ap (λ j. has_begun (h ++ x ∷ []) j) a ∙ has_begun-append h (x ∷ []) id
+          ∙ or_right (has_begun h id) (has_begun (x ∷ []) id) (or_left (id == id) false (eq-eqb id id refl)));
       rising = subst Rising (sym (map-append (λ (n : Named). n.id) ns (m ∷ [])))
           (Rising-push (map (λ (n : Named). n.id) ns) m.id v.rising
           (Each-at_map (λ j. j < m.id) (λ (n : Named). n.id) ns
-          (Each-map (λ (n : Named). has_begun h n.id ≡ true) (λ (n : Named). n.id < m.id) (λ n t. let q : n.id ≤ length (begins h) = begun_low h ns n.id v t in omega arith) ns v.begun)));
+          (Each-map (λ (n : Named). has_begun h n.id ≡ true) (λ (n : Named). n.id < m.id)
+          (λ n t. let q : n.id ≤ length (begins h) = begun_low h ns n.id v t in omega arith) ns v.begun)));
       rising_begins = subst (λ xs. Rising (map (λ (x : Begin). x.id) xs)) (sym grown)
           (subst Rising (sym (map-append (λ (x : Begin). x.id) (begins h) (y ∷ [])))
           (Rising-push (map (λ (x : Begin). x.id) (begins h)) id v.rising_begins
           (Each-at_map (λ j. j < id) (λ (x : Begin). x.id) (begins h)
-          (Each-map (λ (x : Begin). has_begun h x.id ≡ true) (λ (x : Begin). x.id < id) (λ x t. let q : x.id ≤ length (begins h) = begun_low h ns x.id v t in omega arith) (begins h) (begins_self h)))));
+          (Each-map (λ (x : Begin). has_begun h x.id ≡ true) (λ (x : Begin). x.id < id)
+          (λ x t. let q : x.id ≤ length (begins h) = begun_low h ns x.id v t in omega arith) (begins h) (begins_self h)))));
       going =
           ap (λ xs. map brief xs) (open_begins_begun h id lane who mode request (v.unended id (omega arith)))
           ∙ map-append brief (open_begins h) (y ∷ [])

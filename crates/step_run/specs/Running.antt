@@ -1,6 +1,7 @@
 -- What the step run keeps in place of a history: counts, and of each live name what a command can still ask. No public contract speaks of
 -- these. `proofs/` shows that what is written by them is the step output.
-use Rattle.std.specs.Prelude.{ℕ, ◌+◌, Bool, true, false, not, ◌&&◌, ◌||◌, ◌==◌, nat_le, if◌then◌else◌, List, [], ◌∷◌, ◌++◌, map, length, Option, Some, None, codes, decimal, slice_get, slice_set}
+use Rattle.std.specs.Prelude.{ℕ, ◌+◌, Bool, true, false, not, ◌&&◌, ◌||◌, ◌==◌, nat_le, if◌then◌else◌, List, [], ◌∷◌, ◌++◌, map, length, Option, Some}
+use Rattle.std.specs.Prelude.{None, codes, decimal, slice_get, slice_set}
 use Rattle.std.specs.List.{count_by, filter, flat_map, list_any, position, remove, sum_by}
 use Rattle.std.specs.Option.{option_or}
 use Rattle.span_key.specs.declared.scopes.Scope.{Scope}
@@ -21,7 +22,8 @@ use Rattle.script.specs.declared.command.Command.{Command}
 use Rattle.script.specs.declared.command.Command.TheVariants.{Begin as Open, Wait, Check, Poison, Release, Metrics}
 use Rattle.latch_model.specs.Checks.{is_declared}
 use Rattle.step_run.specs.declared.live.Ending.{Ending}
-use Rattle.step_run.specs.declared.live.Ending.TheVariants.{Granted as by_grant, Checked as by_check, Poisoned as by_poison, Cancelled as by_cancel, Never as by_never}
+use Rattle.step_run.specs.declared.live.Ending.TheVariants.{Granted as by_grant, Checked as by_check, Poisoned as by_poison, Cancelled as by_cancel}
+use Rattle.step_run.specs.declared.live.Ending.TheVariants.{Never as by_never}
 use Rattle.step_run.specs.declared.live.Stage.{Stage}
 use Rattle.step_run.specs.declared.live.Stage.TheVariants.{Optimistic, Pending, Granted, Over}
 

@@ -139,7 +139,11 @@ waited Over n s = silent s
 -- nothing is met the check has passed.
 abbrev pub met_first : Named → State → List Latch → List HeldLatch → Step
 met_first n s asked [] = record { written = line n (codes "clear"); state = with_name (record n { passed = Some asked }) s }
-met_first n s asked (x ∷ xs) = record { written = line n (codes "met " ++ decimal x.by ++ 32 ∷ mark_text x.latch); state = with_name (record n { passed = None }) s }
+met_first n s asked (x ∷ xs) = record {
+  written = line n (codes "met " ++ decimal x.by ++ 32 ∷ mark_text x.latch);
+  state = with_name
+      (record n { passed = None }) s;
+}
 
 abbrev pub checked_unless : Option ℕ → Named → State → List Latch → Step
 checked_unless (Some index) n s asked = record { written = line n (codes "undeclared " ++ decimal index); state = s }

@@ -77,6 +77,7 @@ pub(crate) fn live_place(lives: &[Live], name: &Name) -> Option<usize>
 }
 
 /// Whether the request with this number is open.
+#[inline(never)]
 pub(crate) fn is_open(lives: &[Live], id: u64) -> bool
     ensures { result ≡ is_open_among (map seen_live lives.now) id }
 {

@@ -3,7 +3,9 @@ ghost use Rattle.std.specs.Prelude.{◌≡◌, ◌+◌, ◌<◌, ◌++◌, lengt
 ghost use Rattle.std.specs.List.{position};
 ghost use Rattle.std.specs.Option.{option_map};
 ghost use Rattle.script.specs.Commands.{same_name};
-ghost use Rattle.step_run.specs.Running.{Kept, at_kept, blocker, check_now, decided_now, entries_of, first_turn_now, metrics_now, new_kept, on_kept, one_now, opened_line, opening_now, poison_now, prerequisites, released_now, start_running, stepped, turn_at, waited_now, with_ending, with_kept, without_check};
+ghost use Rattle.step_run.specs.Running.{Kept, at_kept, blocker, check_now, decided_now, entries_of, first_turn_now, metrics_now, new_kept, on_kept};
+ghost use Rattle.step_run.specs.Running.{one_now, opened_line, opening_now, poison_now, prerequisites, released_now, start_running, stepped, turn_at};
+ghost use Rattle.step_run.specs.Running.{waited_now, with_ending, with_kept, without_check};
 ghost use Rattle.step_run.specs.Views.{Counts, StepsTo, seen_held, seen_live, seen_run};
 
 use crate::lines::{opening_line, put, words_line};
@@ -96,7 +98,8 @@ pub(crate) fn step<'s>(
 }
 
 fn wait(run: &mut StepRun, name: &Name, out: &mut Vec<u8>) -> Result<(), Memory>
-    ensures { OnOk result (StepsTo (on_kept (seen_run run.old) name.now (λ i n. waited_now n.stage i n (seen_run run.old))) run.new out.old.items out.new.items) }
+    ensures { OnOk result (StepsTo (on_kept (seen_run run.old) name.now
+        (λ i n. waited_now n.stage i n (seen_run run.old))) run.new out.old.items out.new.items) }
 {
     match find(run, name) {
         Some(i) => wait_at(run, i, out),
@@ -110,7 +113,8 @@ fn check_latches(
     asked: &[Latch],
     out: &mut Vec<u8>,
 ) -> Result<(), Memory>
-    ensures { OnOk result (StepsTo (on_kept (seen_run run.old) name.now (λ i n. stepped i (check_now n asked.now) (seen_run run.old))) run.new out.old.items out.new.items) }
+    ensures { OnOk result (StepsTo (on_kept (seen_run run.old) name.now
+        (λ i n. stepped i (check_now n asked.now) (seen_run run.old))) run.new out.old.items out.new.items) }
 {
     match find(run, name) {
         Some(i) => check_at(run, i, asked, out),
@@ -119,7 +123,8 @@ fn check_latches(
 }
 
 fn poison_name(run: &mut StepRun, name: &Name, out: &mut Vec<u8>) -> Result<(), Memory>
-    ensures { OnOk result (StepsTo (on_kept (seen_run run.old) name.now (λ i n. stepped i (poison_now n) (seen_run run.old))) run.new out.old.items out.new.items) }
+    ensures { OnOk result (StepsTo (on_kept (seen_run run.old) name.now
+        (λ i n. stepped i (poison_now n) (seen_run run.old))) run.new out.old.items out.new.items) }
 {
     match find(run, name) {
         Some(i) => poison_at(run, i, out),
@@ -151,7 +156,8 @@ fn open<'s>(
     opening: Opening<'s>,
     out: &mut Vec<u8>,
 ) -> Result<(), Memory>
-    ensures { OnOk result (StepsTo (opening_now (seen_run run.old) opening.entry.name.now opening.entry.mode opening.entry.policy opening.entry.turns opening.entry.latches.now) run.new out.old.items out.new.items) }
+    ensures { OnOk result (StepsTo (opening_now (seen_run run.old) opening.entry.name.now opening.entry.mode opening.entry.policy opening.entry.turns
+        opening.entry.latches.now) run.new out.old.items out.new.items) }
 {
     let held = match run.spare.pop() {
         Some(list) => list,
@@ -170,7 +176,8 @@ fn new_live<'s>(
     opening: Opening<'s>,
     mut held_before: Vec<Held<'s>>,
 ) -> Result<Live<'s>, Memory>
-    ensures { IfOk result (λ live. seen_live live ≡ new_kept (seen_run run.now) opening.entry.name.now opening.entry.mode opening.entry.policy opening.entry.turns opening.entry.latches.now) }
+    ensures { IfOk result (λ live. seen_live live ≡ new_kept (seen_run run.now) opening.entry.name.now opening.entry.mode opening.entry.policy
+        opening.entry.turns opening.entry.latches.now) }
 {
     let id = one_more(run.summary.begun)?;
     list_held(run.lives.as_slice(), &mut held_before)?;
@@ -221,7 +228,8 @@ fn add<'s>(run: &mut StepRun<'s>, live: Live<'s>) -> Result<(), Memory>
 // The first turn of the request at this place, unless it is optimistic.
 fn first_turn(run: &mut StepRun, mode: Mode, i: usize, out: &mut Vec<u8>) -> Result<(), Memory>
     requires { i < length run.old.lives.items }
-    ensures { OnOk result (StepsTo (at_kept (seen_run run.old) i (slice_get (seen_run run.old).lives i) (λ i n. first_turn_now mode i n (seen_run run.old))) run.new out.old.items out.new.items) }
+    ensures { OnOk result (StepsTo (at_kept (seen_run run.old) i (slice_get (seen_run run.old).lives i)
+        (λ i n. first_turn_now mode i n (seen_run run.old))) run.new out.old.items out.new.items) }
 {
     match mode {
         Mode::Acquire | Mode::Look => take_turn(run, i, out),
@@ -243,7 +251,8 @@ fn metrics(run: &StepRun, out: &mut Vec<u8>) -> Result<(), Memory>
 // The request at this place waits: an optimistic one gives up its check first, and one that is granted or over has nothing to wait for.
 fn wait_at(run: &mut StepRun, i: usize, out: &mut Vec<u8>) -> Result<(), Memory>
     requires { i < length run.old.lives.items }
-    ensures { OnOk result (StepsTo (at_kept (seen_run run.old) i (slice_get (seen_run run.old).lives i) (λ i n. waited_now n.stage i n (seen_run run.old))) run.new out.old.items out.new.items) }
+    ensures { OnOk result (StepsTo (at_kept (seen_run run.old) i (slice_get (seen_run run.old).lives i)
+        (λ i n. waited_now n.stage i n (seen_run run.old))) run.new out.old.items out.new.items) }
 {
     let stage = run.lives[i].stage;
     match stage {
@@ -259,7 +268,8 @@ fn wait_at(run: &mut StepRun, i: usize, out: &mut Vec<u8>) -> Result<(), Memory>
 // The request at this place is optimistic no more.
 fn give_up_check(lives: &mut Vec<Live>, i: usize)
     requires { i < length lives.old.items }
-    ensures gives_up { (n : Kept) → slice_get (map seen_live lives.old.items) i ≡ Some n → map seen_live lives.new.items ≡ slice_set (map seen_live lives.old.items) i (without_check n) }
+    ensures gives_up { (n : Kept) → slice_get (map seen_live lives.old.items) i ≡ Some n →
+        map seen_live lives.new.items ≡ slice_set (map seen_live lives.old.items) i (without_check n) }
     ensures len { length lives.new.items ≡ length lives.old.items }
 {
     let live = &mut lives[i];
@@ -270,7 +280,8 @@ fn give_up_check(lives: &mut Vec<Live>, i: usize)
 // A turn of the request at this place.
 fn take_turn(run: &mut StepRun, i: usize, out: &mut Vec<u8>) -> Result<(), Memory>
     requires { i < length run.old.lives.items }
-    ensures { OnOk result (StepsTo (at_kept (seen_run run.old) i (slice_get (seen_run run.old).lives i) (λ i n. turn_at i n (seen_run run.old))) run.new out.old.items out.new.items) }
+    ensures { OnOk result (StepsTo (at_kept (seen_run run.old) i (slice_get (seen_run run.old).lives i)
+        (λ i n. turn_at i n (seen_run run.old))) run.new out.old.items out.new.items) }
 {
     let met = find_blocker(run.lives.as_slice(), i);
     let by_poisoned = is_met_poisoned(run.lives.as_slice(), met);
@@ -291,7 +302,8 @@ fn find_blocker<'s>(lives: &[Live<'s>], i: usize) -> Option<Held<'s>>
 // A check of the request at this place.
 fn check_at(run: &mut StepRun, i: usize, asked: &[Latch], out: &mut Vec<u8>) -> Result<(), Memory>
     requires { i < length run.old.lives.items }
-    ensures { OnOk result (StepsTo (at_kept (seen_run run.old) i (slice_get (seen_run run.old).lives i) (λ i n. stepped i (check_now n asked.now) (seen_run run.old))) run.new out.old.items out.new.items) }
+    ensures { OnOk result (StepsTo (at_kept (seen_run run.old) i (slice_get (seen_run run.old).lives i)
+        (λ i n. stepped i (check_now n asked.now) (seen_run run.old))) run.new out.old.items out.new.items) }
 {
     let ending = check(&mut run.lives[i], asked, out)?;
     end(run, ending)
@@ -300,7 +312,8 @@ fn check_at(run: &mut StepRun, i: usize, asked: &[Latch], out: &mut Vec<u8>) -> 
 // A release of the name at this place: its request ends, unless it is over.
 fn release_at(run: &mut StepRun, i: usize, out: &mut Vec<u8>) -> Result<(), Memory>
     requires { i < length run.old.lives.items }
-    ensures { OnOk result (StepsTo (at_kept (seen_run run.old) i (slice_get (seen_run run.old).lives i) (λ i n. released_now i n (seen_run run.old))) run.new out.old.items out.new.items) }
+    ensures { OnOk result (StepsTo (at_kept (seen_run run.old) i (slice_get (seen_run run.old).lives i)
+        (λ i n. released_now i n (seen_run run.old))) run.new out.old.items out.new.items) }
 {
     let live = run.lives.remove(i);
     words_line(live.name, b"ended", out)?;
@@ -312,7 +325,8 @@ fn release_at(run: &mut StepRun, i: usize, out: &mut Vec<u8>) -> Result<(), Memo
 // A poisoning of the request at this place.
 fn poison_at(run: &mut StepRun, i: usize, out: &mut Vec<u8>) -> Result<(), Memory>
     requires { i < length run.old.lives.items }
-    ensures { OnOk result (StepsTo (at_kept (seen_run run.old) i (slice_get (seen_run run.old).lives i) (λ i n. stepped i (poison_now n) (seen_run run.old))) run.new out.old.items out.new.items) }
+    ensures { OnOk result (StepsTo (at_kept (seen_run run.old) i (slice_get (seen_run run.old).lives i)
+        (λ i n. stepped i (poison_now n) (seen_run run.old))) run.new out.old.items out.new.items) }
 {
     let ending = poison(&mut run.lives[i], out)?;
     end(run, ending)

@@ -80,7 +80,8 @@ fn meet_those<'s>(
     scope: Scope,
     access: Access,
 ) -> Option<Held<'s>>
-    ensures { option_map seen_held result ≡ first_met (can_meet only_open (map seen_live lives.now)) (map seen_held held.now) (those_of scope access asks.now) }
+    ensures { option_map seen_held result ≡ first_met (can_meet only_open (map seen_live lives.now)) (map seen_held held.now)
+        (those_of scope access asks.now) }
 {
     for ask in asks {
         if is_of(ask, scope, access)
@@ -139,7 +140,8 @@ fn earlier_of<'s>(
     lives: &[Live],
     only_open: bool,
 ) -> Option<Held<'s>>
-    ensures { option_map seen_held result ≡ (if can_meet only_open (map seen_live lives.now) (seen_held x.entry) then Some (first_yet (option_map seen_held best.entry) (seen_held x.entry)) else option_map seen_held best.entry) }
+    ensures { option_map seen_held result ≡ (if can_meet only_open (map seen_live lives.now) (seen_held x.entry) then Some
+        (first_yet (option_map seen_held best.entry) (seen_held x.entry)) else option_map seen_held best.entry) }
 {
     match best {
         Some(y) => {
@@ -186,7 +188,8 @@ fn is_first(a: Held, b: Held) -> bool
 
 // The same of two that begin with the same key.
 fn ends_first(a: Held, b: Held) -> bool
-    ensures { result ≡ decided (slice_cmp nat_cmp a.entry.latch.now.span.1 b.entry.latch.now.span.1) (decided (nat_cmp a.entry.by b.entry.by) (nat_lt a.entry.place b.entry.place)) }
+    ensures { result ≡ decided (slice_cmp nat_cmp a.entry.latch.now.span.1 b.entry.latch.now.span.1)
+        (decided (nat_cmp a.entry.by b.entry.by) (nat_lt a.entry.place b.entry.place)) }
 {
     let ends = end_bytes(&a.latch.span).cmp(end_bytes(&b.latch.span));
     match ends.then(a.by.cmp(&b.by)) {

@@ -1,7 +1,8 @@
 // What a turn, a check, a poisoning and a release do to a live name.
 ghost use Rattle.std.specs.Prelude.{◌≡◌, ◌+◌, ◌++◌, OnOk, IfOk};
 ghost use Rattle.std.specs.Option.{option_map};
-ghost use Rattle.step_run.specs.Running.{blocked_by, blocked_now, check_now, checked_against, decided_if, ending_of, granted_now, poison_now, spent, spread_now, with_poison};
+ghost use Rattle.step_run.specs.Running.{blocked_by, blocked_now, check_now, checked_against, decided_if, ending_of, granted_now, poison_now, spent};
+ghost use Rattle.step_run.specs.Running.{spread_now, with_poison};
 ghost use Rattle.step_run.specs.Views.{TurnsTo, seen_held, seen_live};
 
 use crate::lines::{latch_line, number_line, words_line};
@@ -19,7 +20,8 @@ pub(crate) fn decide(
     met: Option<Held>,
     out: &mut Vec<u8>,
 ) -> Result<Option<Ending>, Memory>
-    ensures { IfOk result (λ ending. TurnsTo (decided_if (seen_live live.old) entries by_poisoned (option_map seen_held met.entry)) live.new out.old.items out.new.items ending) }
+    ensures { IfOk result (λ ending. TurnsTo (decided_if (seen_live live.old) entries by_poisoned
+        (option_map seen_held met.entry)) live.new out.old.items out.new.items ending) }
 {
     match met {
         Some(x) => block_by(live, x, by_poisoned, out),
@@ -95,7 +97,8 @@ fn check_against(
     met: Option<Held>,
     out: &mut Vec<u8>,
 ) -> Result<Option<Ending>, Memory>
-    ensures { IfOk result (λ ending. TurnsTo (checked_against (seen_live live.old) (option_map seen_held met.entry)) live.new out.old.items out.new.items ending) }
+    ensures { IfOk result (λ ending. TurnsTo (checked_against (seen_live live.old)
+        (option_map seen_held met.entry)) live.new out.old.items out.new.items ending) }
 {
     match met {
         None => {

@@ -23,4 +23,5 @@ returns c =
     let whole : take i cs ≡ cs = take_whole cs i (subst (λ ds. length ds ≤ i) c.commands-command-items.ensures.list past) in
     c.in_ok-summary_text.ensures.ok
     ∙ ap (λ w. w ++ summary_text c.loop-command.run.summary) (c.loop-command.invariant.written ∙ ap written_by whole)
-    ∙ ap (λ s. written_by cs ++ summary_text s) (ap (λ (r : Running). r.summary) c.loop-command.invariant.kept ∙ ap (λ ds. summary_of (reached ds).history) whole)
+    ∙ ap (λ s. written_by cs ++ summary_text s) (ap (λ (r : Running). r.summary) c.loop-command.invariant.kept
+    ∙ ap (λ ds. summary_of (reached ds).history) whole)

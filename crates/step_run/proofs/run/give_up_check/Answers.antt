@@ -10,4 +10,5 @@ pub returns-clause-gives_up : goal.returns-clause-gives_up
 returns-clause-gives_up c = λ n e.
     let xs = c.args.lives.now.items in
     map-set seen_live xs c.args.i _
-    ∙ ap (λ (k : Kept). slice_set (map seen_live xs) c.args.i (without_check k)) (seen_at xs c.args.i c.index_mut-live.result.now n e c.index_mut-live.ensures.value c.requires)
+    ∙ ap (λ (k : Kept). slice_set (map seen_live xs) c.args.i (without_check k))
+    (seen_at xs c.args.i c.index_mut-live.result.now n e c.index_mut-live.ensures.value c.requires)

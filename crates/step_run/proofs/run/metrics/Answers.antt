@@ -12,11 +12,13 @@ returns c =
     let before = c.args.out.now.items in
     let all = counts_now Global run.global_writer (map seen_live run.lives.items) in
     let own = counts_now Local run.local_writer (map seen_live run.lives.items) in
-    IfOk-equal c.put-3.result c.put-3.new.out.items (c.counts_text-2.new.out.items ++ codes "\n") (before ++ (codes "metrics global" ++ all ++ codes " local" ++ own ++ codes "\n"))
+    IfOk-equal c.put-3.result c.put-3.new.out.items (c.counts_text-2.new.out.items ++ codes "\n")
+    (before ++ (codes "metrics global" ++ all ++ codes " local" ++ own ++ codes "\n"))
     c.put-3.ensures
     (ap (λ w. w ++ codes "\n")
     (c.in_ok-counts_text-2.ensures ∙ ap (λ xs. c.put-2.new.out.items ++ counts_now Local run.local_writer (map seen_live xs)) c.as_slice-2.ensures.value
     ∙ ap (λ w. w ++ own) (c.in_ok-put-2.ensures
-    ∙ ap (λ w. w ++ codes " local") (c.in_ok-counts_text.ensures ∙ ap (λ xs. c.put.new.out.items ++ counts_now Global run.global_writer (map seen_live xs)) c.as_slice.ensures.value
+    ∙ ap (λ w. w ++ codes " local") (c.in_ok-counts_text.ensures ∙ ap
+    (λ xs. c.put.new.out.items ++ counts_now Global run.global_writer (map seen_live xs)) c.as_slice.ensures.value
     ∙ ap (λ w. w ++ all) c.in_ok-put.ensures)))
     ∙ five_parts before (codes "metrics global") all (codes " local") own (codes "\n"))

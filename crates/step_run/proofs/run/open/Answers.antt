@@ -11,10 +11,13 @@ returns c =
     let o = c.args.opening in
     let live = c.in_ok-live.live in
     let at : c.len-i.result ≡ length run.lives.items = omega (arith, run.lives.ok.0, c.len-i.ensures) in
-    opening_steps c.first_turn.result (seen_run run) (seen_run c.add.new.run) (seen_live live) (new_kept (seen_run run) o.name.now o.mode o.policy o.turns o.latches.now) c.len-i.result o.mode c.first_turn.new.run c.args.out.now.items c.write_opening.new.out.items c.first_turn.new.out.items
+    opening_steps c.first_turn.result (seen_run run) (seen_run c.add.new.run) (seen_live live)
+    (new_kept (seen_run run) o.name.now o.mode o.policy o.turns o.latches.now) c.len-i.result o.mode c.first_turn.new.run c.args.out.now.items
+    c.write_opening.new.out.items c.first_turn.new.out.items
     c.in_ok-live.ensures
     (at ∙ sym (length-map run.lives.items seen_live))
     c.in_ok-add.ensures.run
     refl
-    (c.in_ok-write_opening.ensures ∙ ap (λ xs. c.args.out.now.items ++ opened_line (seen_live live) (prerequisites (map seen_live xs) live.latches.now)) c.as_slice.ensures.value)
+    (c.in_ok-write_opening.ensures ∙ ap (λ xs. c.args.out.now.items ++ opened_line (seen_live live)
+    (prerequisites (map seen_live xs) live.latches.now)) c.as_slice.ensures.value)
     c.first_turn.ensures

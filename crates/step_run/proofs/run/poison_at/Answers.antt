@@ -10,4 +10,6 @@ returns c =
     let x = c.index_mut.result.now in
     subst (λ s. OnOk c.end.result (StepsTo s c.end.new.run c.args.out.now.items c.poison.new.out.items))
     (sym (at_place_is (seen_run run) run.lives.items c.args.i x (λ i n. stepped i (poison_now n) (seen_run run)) c.index_mut.ensures.value c.requires))
-    (turn_ends c.end.result run _ c.end.new.run c.args.i (poison_now (seen_live x)) c.poison.new.live c.args.out.now.items c.poison.new.out.items c.in_ok-ending.ending c.in_ok-ending.ensures refl refl refl refl refl c.end.ensures)
+    (turn_ends c.end.result run _ c.end.new.run c.args.i (poison_now
+    (seen_live x)) c.poison.new.live c.args.out.now.items c.poison.new.out.items c.in_ok-ending.ending c.in_ok-ending.ensures refl refl refl refl
+    refl c.end.ensures)

@@ -13,11 +13,15 @@ returns c =
     let i = c.args.i in
     let x = c.index_mut.result.now in
     let met = c.find_blocker-met.result in
-    let known = subst (λ ys. (n : Kept) → slice_get (map seen_live ys) i ≡ Some n → option_map seen_held met ≡ blocker n (map seen_live ys)) c.as_slice.ensures.value c.find_blocker-met.ensures in
-    let spread = subst (λ ys. c.is_met_poisoned-by_poisoned.result ≡ poisoned_met (map seen_live ys) (option_map seen_held met)) c.as_slice-2.ensures.value c.is_met_poisoned-by_poisoned.ensures in
+    let known = subst (λ ys. (n : Kept) → slice_get (map seen_live ys) i ≡ Some n →
+    option_map seen_held met ≡ blocker n (map seen_live ys)) c.as_slice.ensures.value c.find_blocker-met.ensures in
+    let spread = subst (λ ys. c.is_met_poisoned-by_poisoned.result ≡ poisoned_met (map seen_live ys)
+    (option_map seen_held met)) c.as_slice-2.ensures.value c.is_met_poisoned-by_poisoned.ensures in
     subst (λ s. OnOk c.end.result (StepsTo s c.end.new.run c.args.out.now.items c.decide.new.out.items))
     (sym (at_place_is (seen_run run) xs i x (λ i n. turn_at i n (seen_run run)) c.index_mut.ensures.value c.requires))
-    (turn_ends c.end.result run _ c.end.new.run i (turn_now (seen_live x) run.entries (map seen_live xs)) c.decide.new.live c.args.out.now.items c.decide.new.out.items c.in_ok-ending.ending
+    (turn_ends c.end.result run _ c.end.new.run i (turn_now (seen_live x) run.entries
+    (map seen_live xs)) c.decide.new.live c.args.out.now.items c.decide.new.out.items c.in_ok-ending.ending
     (subst (λ t. TurnsTo t c.decide.new.live c.args.out.now.items c.decide.new.out.items c.in_ok-ending.ending)
-    (turn_is (seen_live x) run.entries (map seen_live xs) c.is_met_poisoned-by_poisoned.result (option_map seen_held met) spread (known (seen_live x) (seen_get xs i x c.index_mut.ensures.value c.requires)))
+    (turn_is (seen_live x) run.entries (map seen_live xs) c.is_met_poisoned-by_poisoned.result (option_map seen_held met) spread
+    (known (seen_live x) (seen_get xs i x c.index_mut.ensures.value c.requires)))
     c.in_ok-ending.ensures) refl refl refl refl refl c.end.ensures)

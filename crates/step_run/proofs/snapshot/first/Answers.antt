@@ -24,7 +24,8 @@ loop-x-preserved c =
     let longer : map seen_held (take (i + 1) xs) ≡ before ++ x ∷ [] =
     ap (λ ys. map seen_held ys) (take_more xs i c.x-item.result inside ∙ ap (λ y. take i xs ++ y ∷ []) (sym c.x-item.is))
     ∙ map-append seen_held (take i xs) (c.x-item.result ∷ []) in
-    let next : cond (meets access ask x) (cond (test x) (Some (first_yet so_far x)) so_far) so_far ≡ first_in test (map seen_held (take (i + 1) xs)) access ask =
+    let next : cond (meets access ask x) (cond (test x) (Some (first_yet so_far x)) so_far) so_far ≡ first_in test
+    (map seen_held (take (i + 1) xs)) access ask =
     sym (first_of-next (meets access ask) test before x) ∙ ap (λ ys. first_in test ys access ask) (sym longer) in
     elim c.if-is_met.branch [
       | then-is_met w ↦
