@@ -40,7 +40,7 @@ blank-next k e d b = record {
 }
 
 -- a mark of 0 says it all
-pub blank-marked : (e : Entry) (n : ℕ) → e.kind ≡ 0 → ((m : ℕ) → find 2 e.known ≡ some m → n ≡ m) → n ≡ 0 → HasMark e → HasZeros 64 e e
+pub blank-marked : (e : Entry) (n : ℕ) → e.kind ≡ 0 → ((m : ℕ) → find 2 e.known ≡ some m → n ≡ m) → n ≡ 0 → HasMark e → HasZeros (link_count 2) e e
 blank-marked e n free read clean m = record { free = free; own = refl; linked = refl; zeros = λ u a b. m.2 (sym (read m.0 m.1) ∙ clean) u a b }
 
 pub fan-node : (kind : ℕ) → 2 ≤ kind → kind ≤ 3 → (link_count kind ≡ 64) × (first_link kind ≡ 3)
@@ -50,5 +50,5 @@ fan-node (suc (suc zero)) a b = (refl, refl)
 fan-node (suc (suc (suc zero))) a b = (refl, refl)
 fan-node (suc (suc (suc (suc k)))) a b = absurd (omega arith)
 
-pub new-node : (kind : ℕ) (e d : Entry) → 2 ≤ kind → kind ≤ 3 → HasZeros 64 e d → IsNewNode kind e (turned_into kind d)
-new-node kind e d a b x = record { is = refl; own = x.own; linked = x.linked; links = ap nil_links (fan-node kind a b).0; said = find-noted 1 kind d.known }
+pub new-node : (kind : ℕ) (e d : Entry) → 2 ≤ kind → kind ≤ 3 → HasZeros (link_count 2) e d → IsNewNode kind e (turned_into kind d)
+new-node kind e d a b x = record { is = refl; own = x.own; linked = x.linked; links = refl; said = find-noted 1 kind d.known }

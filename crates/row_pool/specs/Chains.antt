@@ -5,12 +5,13 @@ use mathlib.Core.Option.{some, none}
 use Rattle.row_pool.specs.Lists.{find, mem}
 use Rattle.row_pool.specs.Trees.{Entry}
 use Rattle.row_pool.specs.SeatView.{SeatView}
+use Rattle.row_pool.specs.Layout.{first_link, link_count}
 use Rattle.row_pool.specs.SeatState.{SameSeat}
 use Rattle.row_pool.specs.declared.chain.Chain.{Chain}
 
--- The word 2 of a free row in a chain is a mark: where it holds 0, the words 3 to 66 hold 0
+-- Word 2 of a free row in a chain is a mark: where it holds 0, the words that are links in a node hold 0 already
 abbrev pub HasMark : Entry → Type 0
-HasMark e = (m : ℕ) × (find 2 e.known ≡ some m) × (m ≡ 0 → (u : ℕ) → 3 ≤ u → u < 67 → find u e.known ≡ some 0)
+HasMark e = (m : ℕ) × (find 2 e.known ≡ some m) × (m ≡ 0 → (u : ℕ) → first_link 2 ≤ u → u < first_link 2 + link_count 2 → find u e.known ≡ some 0)
 
 -- a row in a chain is free, nothing counts on it, and its word 1 links to the next
 pub record IsFreeRow (e : Entry) (next : ℕ) : Type 0 where

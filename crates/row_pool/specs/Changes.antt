@@ -20,6 +20,7 @@ unfoldable pub zeros : ℕ → ℕ → List (ℕ × ℕ)
 zeros u zero = []
 zeros u (suc m) = (u, 0) ∷ zeros (suc u) m
 
+-- what is known of a row that was never used; its word 1 holds y
 abbrev pub free_entry : ℕ → Entry
 free_entry y = record { kind = 0; own = 0; linked = 0; links = []; known = (1, y) ∷ zeros 2 65 }
 
@@ -28,12 +29,15 @@ unfoldable pub free_from : ℕ → ℕ → ℕ → List (ℕ × Entry)
 free_from n k zero = []
 free_from n k (suc m) = (k, free_entry (next_of n k)) ∷ free_from n (suc k) m
 
+-- the first view of a pool of n rows: it owns all of them, and they are free
 abbrev pub fresh : ℕ → SeatView
 fresh n = record { refs = []; owned = free_from n 0 n; number = 1; out = []; size = n }
 
+-- a reference more
 abbrev pub with_ref : Tree → SeatView → SeatView
 with_ref t v = record { refs = t ∷ v.refs; owned = v.owned; number = v.number; out = v.out; size = v.size }
 
+-- a reference less
 abbrev pub without_ref : ℕ → SeatView → SeatView
 without_ref r v = record { refs = without_tree r v.refs; owned = v.owned; number = v.number; out = v.out; size = v.size }
 
@@ -45,6 +49,7 @@ numbered k (x ∷ xs) = (k, x) ∷ numbered (suc k) xs
 abbrev pub entry_of : Tree → ℕ → ℕ → Entry
 entry_of t own linked = record { kind = slice_index (words_of t) 1; own = own; linked = linked; links = map Link.to (children t); known = numbered 0 (words_of t) }
 
+-- the table with this entry for the row r, and no other for it
 abbrev pub put : ℕ → Entry → List (ℕ × Entry) → List (ℕ × Entry)
 put r e ps = (r, e) ∷ without r ps
 
@@ -59,9 +64,11 @@ with_known w y known = (w, y) ∷ without w known
 unfoldable pub nil_links : ℕ → List Link
 nil_links n = replicate n (Link.to nil)
 
+-- the entry of an owned row in place of the one before
 abbrev pub with_entry : ℕ → Entry → SeatView → SeatView
 with_entry r e v = record { refs = v.refs; owned = put r e v.owned; number = v.number; out = v.out; size = v.size }
 
+-- the entry where word w holds y and is known
 abbrev pub written : ℕ → ℕ → Entry → Entry
 written w y e = record { kind = e.kind; own = e.own; linked = e.linked; links = e.links; known = with_known w y e.known }
 
@@ -72,10 +79,12 @@ turned_into kind e = record { kind = kind; own = e.own; linked = e.linked; links
 abbrev pub with_link : ℕ → Link → Entry → Entry
 with_link k l e = record { kind = e.kind; own = e.own; linked = e.linked; links = slice_set e.links k l; known = e.known }
 
+-- the references where a link gave its tree back
 abbrev pub with_old_target : Tree → List Tree → List Tree
 with_old_target nil ts = ts
 with_old_target (row r c ks) ts = row r c ks ∷ ts
 
+-- the references where a link took one of them
 abbrev pub without_target : Tree → List Tree → List Tree
 without_target nil ts = ts
 without_target (row r c ks) ts = without_tree r ts
@@ -126,10 +135,12 @@ abbrev pub tree_of : ℕ → List Tree → Tree
 tree_of r [] = nil
 tree_of r (t ∷ ts) = cond (eqb (tree_word t) (suc r)) t (tree_of r ts)
 
+-- the references that are left where those to the rows `rs` are gone
 abbrev pub without_trees : List ℕ → List Tree → List Tree
 without_trees [] ts = ts
 without_trees (r ∷ rs) ts = without_trees rs (without_tree r ts)
 
+-- the references to the rows `rs`
 abbrev pub picked : List ℕ → List Tree → List Tree
 picked [] ts = []
 picked (r ∷ rs) ts = tree_of r ts ∷ picked rs (without_tree r ts)
@@ -143,6 +154,7 @@ HasRefs (r ∷ rs) ts = (tree_word (tree_of r ts) ≡ suc r) × HasRefs rs (with
 abbrev pub split_off : List ℕ → SeatView → SeatView
 split_off rs v = record { refs = picked rs v.refs; owned = []; number = next_number v.out; out = []; size = v.size }
 
+-- what the first seat has left then
 abbrev pub remaining : List ℕ → SeatView → SeatView
 remaining rs v = record {
   refs = without_trees rs v.refs;
@@ -156,6 +168,7 @@ remaining rs v = record {
 abbrev pub joined : SeatView → SeatView → SeatView
 joined v w = record { refs = v.refs ++ w.refs; owned = v.owned ++ w.owned; number = v.number; out = without_first w.number v.out; size = v.size }
 
+-- a seat that was joined into another
 abbrev pub spent : SeatView
 spent = record { refs = []; owned = []; number = 0; out = []; size = 0 }
 

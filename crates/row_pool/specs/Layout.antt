@@ -20,6 +20,7 @@ first_link zero = 3
 first_link (suc zero) = 75
 first_link (suc (suc k)) = 3
 
+-- a word that is no count and no counted link
 abbrev pub IsContent : ℕ → ℕ → Type 0
 IsContent kind w = (1 ≤ w) × (w < 80) × ((w < first_link kind) ⊎ (first_link kind + link_count kind ≤ w))
 

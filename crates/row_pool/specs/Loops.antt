@@ -6,6 +6,7 @@ use lib.ListN.{get_elem?}
 use Rattle.row_pool.specs.Lists.{find, mem}
 use Rattle.row_pool.specs.Trees.{Tree, nil, Link, Entry, children}
 use Rattle.row_pool.specs.SeatView.{SeatView}
+use Rattle.row_pool.specs.Layout.{first_link}
 use Rattle.row_pool.specs.Changes.{without_tree}
 use Rattle.row_pool.specs.SeatState.{SameSeat, kind_of}
 use Rattle.row_pool.specs.Chains.{LinkedFrom, EndsWith, IsChain, SplitAt}
@@ -39,9 +40,9 @@ pub record OwnsMoreBeside (r : ℕ) (v w : SeatView) (c d : Chain) : Type 0 wher
   pub same : (q : ℕ) → (q ≡ r → ⊥) → mem q more ≡ false → find q w.owned ≡ find q v.owned
   pub chain : (rs : List ℕ) → IsChain v c rs → IsChain w d (more ++ rs)
 
--- the entry of a free row, with k words from word 3 on known to hold 0
+-- the entry of a free row, with k words from a node's first link on known to hold 0
 pub record HasZeros (k : ℕ) (e d : Entry) : Type 0 where
   pub free : d.kind ≡ 0
   pub own : d.own ≡ e.own
   pub linked : d.linked ≡ e.linked
-  pub zeros : (u : ℕ) → 3 ≤ u → u < 3 + k → find u d.known ≡ some 0
+  pub zeros : (u : ℕ) → first_link 2 ≤ u → u < first_link 2 + k → find u d.known ≡ some 0

@@ -10,7 +10,7 @@ use Rattle.atomic_table.specs.Table.{Me}
 use Rattle.row_pool.specs.Lists.{find, mem}
 use Rattle.row_pool.specs.Trees.{Tree, Link, Entry, tree_word, children, words_of}
 use Rattle.row_pool.specs.SeatView.{SeatView, view_coded}
-use Rattle.row_pool.specs.Layout.{first_link}
+use Rattle.row_pool.specs.Layout.{first_link, link_count}
 use Rattle.row_pool.specs.Changes.{nil_links}
 use Rattle.row_pool.specs.Views.{Reaches, ViewInvariant}
 
@@ -89,5 +89,5 @@ pub record IsNewNode (kind : ℕ) (e d : Entry) : Type 0 where
   pub is : d.kind ≡ kind
   pub own : d.own ≡ e.own
   pub linked : d.linked ≡ e.linked
-  pub links : d.links ≡ nil_links 64
+  pub links : d.links ≡ nil_links (link_count kind)
   pub said : find 1 d.known ≡ some kind

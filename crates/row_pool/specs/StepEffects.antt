@@ -11,6 +11,7 @@ use Rattle.row_pool.specs.Changes.{Becomes, with_ref, without_ref, own_row, with
 use Rattle.row_pool.specs.Changes.{published, own_linked_row, published_by_link, target_of, freed}
 use Rattle.row_pool.specs.Views.{Reaches, Alone, ViewInvariant}
 
+-- the step is on word w of the row r
 abbrev pub At : {S : Type 0} → Step S → ℕ → ℕ → Type 0
 At st r w = (w < 80) × (st.word ≡ r * 80 + w)
 

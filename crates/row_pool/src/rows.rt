@@ -1,4 +1,5 @@
-// A pool of rows, and what one thread knows of it.
+// The pool of rows, the seats that threads use it by, and the calls on rows: one load, store, add or sub each, or a few of them. The table of costs stands in
+// lib.rt.
 ghost use Rattle.std.specs.Prelude.{◌≡◌, ◌≢◌, ◌⊎◌, ℕ, suc, ◌+◌, ◌-◌, ◌*◌, ◌<◌, ◌≤◌, ◌^◌, List, [], ◌∷◌, ◌++◌, map, length, min, true, slice_index, IsTrue};
 ghost use Rattle.std.specs.Prelude.{IsFalse, IfOk};
 ghost use mathlib.Core.Option.{none, some};
@@ -41,7 +42,8 @@ impl Model for Rows {
     ghost invariant = { λ r. (0 < r.table.shared.table_id.words) × (r.table.shared.table_id.words ≡ r.table.shared.key * 80) };
 }
 
-/// What one thread knows of the pool: the trees that it refers to, and the rows that it owns.
+/// What one thread knows of the pool: the trees that it has references to, and the rows that it owns. Each call names the seat that it is made by, and its
+/// contract says how that seat's view changes; the views of all others stay as they are. A seat is no `Drop`: the first one ends in `close`, each other in `join`.
 pub struct RowSeat {
     seat: Seat<u8, View>,
     follows: u64,
@@ -58,14 +60,14 @@ impl Model for RowSeat {
 }
 
 impl RowSeat {
-    /// What holds of each seat between any two steps of anyone.
+    /// What holds of each seat between any two steps of anyone. It costs no step.
     pub fn known(&self)
         ensures { ViewInvariant self.now.view }
     {
         let _ = &self.follows;
     }
 
-    /// How many links were followed, up to the last value of a u64.
+    /// How many links this seat followed, up to the last value of a u64.
     pub fn follows(&self) -> u64
         ensures { result ≡ self.now.follows }
     {
@@ -73,27 +75,33 @@ impl RowSeat {
     }
 }
 
+/// The first link word of a node, and the number of its links.
+const NODE_LINK: u32 = 3;
+const NODE_LINKS: u32 = 64;
+
+// How many counted links a row of this kind has.
 fn link_count_of(kind: u64) -> u32
     ensures { result ≡ link_count kind }
 {
     match kind {
-        2 | 3 => 64,
+        2 | 3 => NODE_LINKS,
         _ => 0,
     }
 }
 
+// The word of its first counted link.
 fn first_link_of(kind: u64) -> u32
     ensures { result ≡ first_link kind }
 {
-    if kind == 1 { 75 } else { 3 }
+    if kind == 1 { 75 } else { NODE_LINK }
 }
 
-// The mark of a row that goes free: 0 where its words 3 to 66 were links, which hold 0 then.
+// The mark of a row that goes free: 0 where the words that are links in a node were links of the row, which hold 0 then.
 fn mark_for(links: u32) -> u64
-    ensures clean { result ≡ 0 → links ≡ 64 }
-    ensures spared { links ≡ 64 → result ≡ 0 }
+    ensures clean { result ≡ 0 → links ≡ link_count 2 }
+    ensures spared { links ≡ link_count 2 → result ≡ 0 }
 {
-    if links == 64 { 0 } else { 1 }
+    if links == NODE_LINKS { 0 } else { 1 }
 }
 
 fn row_named(link: u64) -> Option<u32>
@@ -140,7 +148,8 @@ fn first_words(alloc: Global, n: u32) -> Result<Vec<u64>, Memory>
 }
 
 impl Rows {
-    /// A pool of n rows. All are in the chain.
+    /// A pool of n rows, from 1 to 4,194,304, all in the chain, and its first seat. The only call that takes memory, for a moment twice the pool's: the base
+    /// copies the words that it begins with. `Memory` where that was refused.
     pub fn new(alloc: Global, n: u32) -> Result<(Rows, RowSeat, Chain), Memory>
         requires { (1 ≤ n) × (n ≤ 4194304) }
         ensures pool { IfOk result (λ r. (r.1.table ≡ r.0) × (r.1.view ≡ fresh n) × (r.1.follows ≡ 0)) }
@@ -162,7 +171,7 @@ impl Rows {
         ))
     }
 
-    /// A word of a row that the seat owns or reaches, and that is no counted link.
+    /// A word of a row that the seat owns or reaches, from 1 to 79, and that is no counted link. One load.
     pub fn read(&self, seat: &mut RowSeat, row: u32, word: u32) -> u64
         requires table { seat.old.table ≡ self.now }
         requires reachable { OwnsOrReachesAs (λ kind. IsContent kind word) seat.old.view row }
@@ -175,7 +184,7 @@ impl Rows {
             .load::<Read>(&mut seat.seat, row as usize * 80 + word as usize)
     }
 
-    /// A word of an owned row that is no counted link, and not the kind. The view knows it from then on.
+    /// A word of an owned row that is no counted link, and not the kind. The view knows it from then on, so a caller can store only what differs. One load.
     pub fn note(&self, seat: &mut RowSeat, row: u32, word: u32) -> u64
         requires table { seat.old.table ≡ self.now }
         requires owned { (e : Entry) × (find row seat.old.view.owned ≡ some e) × IsContent e.kind word × (0 < e.kind → word ≢ 1) }
@@ -188,7 +197,7 @@ impl Rows {
             .load::<Note>(&mut seat.seat, row as usize * 80 + word as usize)
     }
 
-    /// The row that a counted link names. It counts.
+    /// The row that a counted link of an owned or reached row names, None exactly for no link. One load, and `follows` rises by one.
     pub fn follow(&self, seat: &mut RowSeat, row: u32, word: u32) -> Option<u32>
         requires table { seat.old.table ≡ self.now }
         requires reachable { OwnsOrReachesAs (λ kind. IsLink kind word) seat.old.view row }
@@ -206,7 +215,7 @@ impl Rows {
         row_named(link)
     }
 
-    /// One reference more to a row that the seat reaches.
+    /// One reference more to a live row that the seat reaches. One add.
     pub fn hold(&self, seat: &mut RowSeat, row: u32)
         requires table { seat.old.table ≡ self.now }
         requires reach { (t : Tree) × Reaches seat.old.view t × (tree_word t ≡ suc row) }
@@ -232,8 +241,8 @@ impl Rows {
             .fetch_sub::<DropRef>(&mut seat.seat, row as usize * 80, 1)
     }
 
-    /// True exactly where the count was loaded as 1: the row is then owned. On the first seat, while no seat is split off, it is true of each row that is the
-    /// seat's alone.
+    /// True exactly where the count was loaded as 1: the row is then owned, in place of the seat's reference or under the link of the owned row that leads to
+    /// it. On the first seat, while no seat is split off, it is true of each row that is the seat's alone. One load.
     pub fn own_if_single(&self, seat: &mut RowSeat, row: u32) -> bool
         requires table { seat.old.table ≡ self.now }
         requires reference { (tree_word (tree_of row seat.old.view.refs) ≡ suc row)
@@ -297,7 +306,7 @@ impl Rows {
         old
     }
 
-    /// The reference to `to` moves into a counted link of an owned row; what the link named becomes a reference of the seat.
+    /// The reference to `to` moves into a counted link of an owned row; what the link named becomes the newest reference of the seat. One load, one store.
     pub fn link(&self, seat: &mut RowSeat, row: u32, word: u32, to: Option<u32>)
         requires table { seat.old.table ≡ self.now }
         requires link { (e : Entry) × (u : Tree) × (k : ℕ) × LinkAt seat.old.view row word e k (Link.to u) }
@@ -322,7 +331,8 @@ impl Rows {
             .store::<Free>(&mut seat.seat, row as usize * 80 + 1, next);
     }
 
-    /// The count falls. Rows that reach 0 go into the chain, with a mark where their links' words hold 0.
+    /// Gives a reference up. Each row whose count falls to 0 goes into the chain, in front: its links are given up first, so it goes at most 4 rows deep.
+    /// One load and one sub; of a row whose count falls to 0 also a load of each link, a store for each that isn't 0, and two stores.
     pub fn drop_ref(&self, seat: &mut RowSeat, row: u32, chain: &mut Chain)
         requires table { seat.old.table ≡ self.now }
         requires reference { tree_word (tree_of row seat.old.view.refs) ≡ suc row }
@@ -368,7 +378,8 @@ impl Rows {
         }
     }
 
-    /// The references of the first seat move to a new seat, whose cap is the number of rows in their trees.
+    /// These references of the first seat move to a new seat. Its cap, the most rows that it may own or reach, is the number of rows in their trees. Three
+    /// loads of word 0: what holds of a view is learnt by a step of its own.
     pub fn split(&self, seat: &mut RowSeat, refs: &[u32]) -> RowSeat
         requires table { seat.old.table ≡ self.now }
         requires first { (seat.old.view.number ≡ 1) × (length seat.old.view.out < 65536) }
@@ -379,7 +390,7 @@ impl Rows {
         self.split_by::<Brand>(seat, refs)
     }
 
-    /// All references and owned rows of `other` move to the first seat.
+    /// All references and owned rows of `other` move to the first seat. Two loads of word 0.
     pub fn join(&self, seat: &mut RowSeat, other: RowSeat)
         requires table { (seat.old.table ≡ self.now) × (other.table ≡ self.now) }
         requires first { (seat.old.view.number ≡ 1) × (2 ≤ other.view.number) }
@@ -422,7 +433,7 @@ impl Rows {
             .store::<SetKind>(&mut seat.seat, row as usize * 80 + 1, kind);
     }
 
-    /// Writes a word of an owned row that is no counted link. Word 1 is written to free rows alone: 1 makes the row an item, 2 or 3 a node, where the words
+    /// Writes a word of an owned row that is no counted link, by one store. Word 1 is written to free rows alone: 1 makes the row an item, 2 or 3 a node, where the words
     /// that become links are known to hold 0.
     pub fn write(&self, seat: &mut RowSeat, row: u32, word: u32, value: u64)
         requires table { seat.old.table ≡ self.now }
@@ -446,10 +457,10 @@ impl Rows {
         requires free { (e : Entry) × (find row seat.old.view.owned ≡ some e) × (e.kind ≡ 0) }
         ensures same { OnlyViewChanges seat.old seat.new }
         ensures only { OnlyEntryChanges row seat.old.view seat.new.view }
-        ensures cleared { (e : Entry) → find row seat.old.view.owned ≡ some e → (d : Entry) × (find row seat.new.view.owned ≡ some d) × HasZeros 64 e d }
+        ensures cleared { (e : Entry) → find row seat.old.view.owned ≡ some e → (d : Entry) × (find row seat.new.view.owned ≡ some d) × HasZeros (link_count 2) e d }
     {
-        for k in 0..64 {
-            self.put(seat, row, 3 + k, 0);
+        for k in 0..NODE_LINKS {
+            self.put(seat, row, NODE_LINK + k, 0);
         }
     }
 
@@ -459,15 +470,15 @@ impl Rows {
         requires free { (e : Entry) × (find row seat.old.view.owned ≡ some e) × (e.kind ≡ 0) × HasMark e }
         ensures same { OnlyViewChanges seat.old seat.new }
         ensures only { OnlyEntryChanges row seat.old.view seat.new.view }
-        ensures cleared { (e : Entry) → find row seat.old.view.owned ≡ some e → (d : Entry) × (find row seat.new.view.owned ≡ some d) × HasZeros 64 e d }
+        ensures cleared { (e : Entry) → find row seat.old.view.owned ≡ some e → (d : Entry) × (find row seat.new.view.owned ≡ some d) × HasZeros (link_count 2) e d }
     {
         if self.read(seat, row, 2) != 0 {
             self.clear(seat, row);
         }
     }
 
-    /// A free row that comes from a chain becomes a node whose links are empty. This costs a load and a store where the row was a node before, or was never
-    /// used.
+    /// A free row that comes from a chain becomes a leaf (2) or an inner node (3) whose links are empty. One load and one store, where the row was a node before
+    /// or was never used; 64 stores more where it was an item.
     pub fn start_node(&self, seat: &mut RowSeat, row: u32, kind: u64)
         requires table { seat.old.table ≡ self.now }
         requires kind { (2 ≤ kind) × (kind ≤ 3) }
@@ -480,7 +491,8 @@ impl Rows {
         self.turn(seat, row, kind);
     }
 
-    /// An owned row goes live. The one reference to it is the seat's, or stays the link of the seat's row that led to it.
+    /// An owned item or node goes live: nobody writes it from then on, and others may come to reach it. Its links stand for live rows, at most 3 levels of them.
+    /// The one reference to it is the seat's, or stays the link of the seat's row that leads to it. One store.
     pub fn publish(&self, seat: &mut RowSeat, row: u32)
         requires table { seat.old.table ≡ self.now }
         requires whole { (e : Entry) × (us : List Tree) × (find row seat.old.view.owned ≡ some e) × (0 < e.kind) × (e.links ≡ map to us)
@@ -499,7 +511,7 @@ impl Rows {
             .store::<Publish>(&mut seat.seat, row as usize * 80, 1);
     }
 
-    /// Ends the pool.
+    /// Ends the pool. Nothing is split off any more, and the chain has all rows. No step.
     pub fn close(self, seat: RowSeat, chain: Chain)
         requires table { seat.table ≡ self }
         requires first { (seat.view.number ≡ 1) × (seat.view.out ≡ []) }
