@@ -1,0 +1,5 @@
+pub mod Packing
+pub mod Bytes
+pub mod Comparing
+pub mod Rows
+pub mod Filling

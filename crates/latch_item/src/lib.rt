@@ -1,0 +1,15 @@
+//! Latches as the words of rows, their order, and the shape of a tree of them.
+//!
+//! An item is a row that says one latch: the request, the latch's place in it, the lane, the normal stamp, and the span with eight bytes a word.
+#![tactic(auto)]
+
+mod order;
+mod read;
+mod shot;
+mod words;
+mod write;
+
+pub use order::{begins_before, bound_cmp, item_cmp, item_overlaps, reaches};
+pub use read::{Facts, item_facts, item_span};
+pub use shot::Shot;
+pub use write::write_item;

@@ -1,0 +1,207 @@
+// How items lie to spans and to one another.
+ghost use Rattle.std.specs.Prelude.{◌≡◌, ◌↔◌, ℕ, ◌*◌, ◌≤◌, IsTrue};
+ghost use Rattle.std.specs.Ordering.{nat_cmp, ordering_then};
+ghost use Rattle.span_key.specs.Spans.{IsKey, Overlap, key_cmp, key_lt, past, overlap, bound_cmp as span_bound_cmp, is_point as is_single};
+ghost use Rattle.latch_item.specs.Bytes.{Agree};
+ghost use Rattle.latch_item.specs.Items.{Item, HasItem, part, item_cmp as item_order};
+
+use crate::read::{read_len, read_part, read_word};
+use crate::words::key_word;
+use row_pool::{RowSeat, Rows};
+use span_key::Span;
+use std::cmp::Ordering;
+
+/// The order of items: by key, end, request and place in the request. An empty end comes first.
+pub fn item_cmp(rows: &Rows, seat: &mut RowSeat, a: u32, b: u32) -> Ordering
+    requires table { seat.old.table ≡ rows.now }
+    requires one { (x : Item) × HasItem seat.old.view a x }
+    requires other { (y : Item) × HasItem seat.old.view b y }
+    ensures same { seat.new ≡ seat.old }
+    ensures order { (x y : Item) → HasItem seat.old.view a x → HasItem seat.old.view b y → result ≡ item_order x y }
+{
+    let by_key = parts_cmp(rows, seat, a, false, b, false);
+    if by_key.is_ne() {
+        return by_key;
+    }
+    let by_end = parts_cmp(rows, seat, a, true, b, true);
+    if by_end.is_ne() {
+        return by_end;
+    }
+    ids_cmp(rows, seat, a, b)
+}
+
+/// The order of the upper bounds of two items.
+pub fn bound_cmp(rows: &Rows, seat: &mut RowSeat, a: u32, b: u32) -> Ordering
+    requires table { seat.old.table ≡ rows.now }
+    requires one { (x : Item) × HasItem seat.old.view a x }
+    requires other { (y : Item) × HasItem seat.old.view b y }
+    ensures same { seat.new ≡ seat.old }
+    ensures order { (x y : Item) → HasItem seat.old.view a x → HasItem seat.old.view b y → result ≡ span_bound_cmp x.span y.span }
+{
+    let a_point = is_point(rows, seat, a);
+    let b_point = is_point(rows, seat, b);
+    let by_bytes = parts_cmp(rows, seat, a, !a_point, b, !b_point);
+    by_bytes.then(a_point.cmp(&b_point))
+}
+
+/// Whether some key is in the item's span and in the other.
+pub fn item_overlaps(rows: &Rows, seat: &mut RowSeat, a: u32, span: &Span) -> bool
+    requires table { seat.old.table ≡ rows.now }
+    requires item { (x : Item) × HasItem seat.old.view a x }
+    ensures same { seat.new ≡ seat.old }
+    ensures test { (x : Item) → HasItem seat.old.view a x → result ≡ overlap x.span span.now }
+    ensures points { (x : Item) → HasItem seat.old.view a x → IsTrue result ↔ Overlap x.span span.now }
+{
+    // That the pair is a span is learnt by reading it.
+    let _key = span.key();
+    begins_before(rows, seat, a, span) && reaches(rows, seat, a, span)
+}
+
+/// Whether the item's key is before the upper bound of a span.
+pub fn begins_before(rows: &Rows, seat: &mut RowSeat, a: u32, span: &Span) -> bool
+    requires table { seat.old.table ≡ rows.now }
+    requires item { (x : Item) × HasItem seat.old.view a x }
+    ensures same { seat.new ≡ seat.old }
+    ensures test { (x : Item) → HasItem seat.old.view a x → result ≡ key_lt x.span.0 (past span.now) }
+{
+    match span.end() {
+        Some(end) => part_cmp(rows, seat, a, false, end.bytes()).is_lt(),
+        None => part_cmp(rows, seat, a, false, span.key().bytes()).is_le(),
+    }
+}
+
+/// Whether the item's upper bound is not before the key of a span.
+pub fn reaches(rows: &Rows, seat: &mut RowSeat, a: u32, span: &Span) -> bool
+    requires table { seat.old.table ≡ rows.now }
+    requires item { (x : Item) × HasItem seat.old.view a x }
+    ensures same { seat.new ≡ seat.old }
+    ensures test { (x : Item) → HasItem seat.old.view a x → result ≡ key_lt span.now.0 (past x.span) }
+{
+    let key = span.key().bytes();
+    if is_point(rows, seat, a) {
+        part_cmp(rows, seat, a, false, key).is_ge()
+    } else {
+        part_cmp(rows, seat, a, true, key).is_gt()
+    }
+}
+
+// The key, or the end, of an item against a key. Words are compared up to the first that differs, and none past the shorter of the two.
+fn part_cmp(rows: &Rows, seat: &mut RowSeat, a: u32, end: bool, bytes: &[u8]) -> Ordering
+    requires key { IsKey bytes.now }
+    requires table { seat.old.table ≡ rows.now }
+    requires item { (x : Item) × HasItem seat.old.view a x }
+    ensures same { seat.new ≡ seat.old }
+    ensures order { (x : Item) → HasItem seat.old.view a x → result ≡ key_cmp (part end x.span) bytes.now }
+{
+    let word = read_part(rows, seat, a, end, 0);
+    let other = key_word(bytes, 0);
+    if word != other {
+        word.cmp(&other)
+    } else {
+        later_part_cmp(rows, seat, a, end, bytes)
+    }
+}
+
+// The same where the first words are equal.
+fn later_part_cmp(rows: &Rows, seat: &mut RowSeat, a: u32, end: bool, bytes: &[u8]) -> Ordering
+    requires key { IsKey bytes.now }
+    requires table { seat.old.table ≡ rows.now }
+    requires item { (x : Item) × HasItem seat.old.view a x }
+    requires first { (x : Item) → HasItem seat.old.view a x → Agree (part end x.span) bytes.now 1 }
+    ensures same { seat.new ≡ seat.old }
+    ensures order { (x : Item) → HasItem seat.old.view a x → result ≡ key_cmp (part end x.span) bytes.now }
+{
+    let len = read_len(rows, seat, a, end);
+    let other_len = bytes.len() as u32;
+    for i in 1..words_to(len.min(other_len)) {
+        let word = read_part(rows, seat, a, end, i);
+        let other = key_word(bytes, i);
+        if word != other {
+            return word.cmp(&other);
+        }
+    }
+    len.cmp(&other_len)
+}
+
+// The key, or the end, of an item against that of another, in the same way.
+fn parts_cmp(rows: &Rows, seat: &mut RowSeat, a: u32, a_end: bool, b: u32, b_end: bool) -> Ordering
+    requires table { seat.old.table ≡ rows.now }
+    requires one { (x : Item) × HasItem seat.old.view a x }
+    requires other { (y : Item) × HasItem seat.old.view b y }
+    ensures same { seat.new ≡ seat.old }
+    ensures order { (x y : Item) → HasItem seat.old.view a x → HasItem seat.old.view b y → result ≡ key_cmp (part a_end x.span) (part b_end y.span) }
+{
+    let word = read_part(rows, seat, a, a_end, 0);
+    let other = read_part(rows, seat, b, b_end, 0);
+    if word != other {
+        word.cmp(&other)
+    } else {
+        later_parts_cmp(rows, seat, a, a_end, b, b_end)
+    }
+}
+
+// The same where the first words are equal.
+fn later_parts_cmp(
+    rows: &Rows,
+    seat: &mut RowSeat,
+    a: u32,
+    a_end: bool,
+    b: u32,
+    b_end: bool,
+) -> Ordering
+    requires table { seat.old.table ≡ rows.now }
+    requires one { (x : Item) × HasItem seat.old.view a x }
+    requires other { (y : Item) × HasItem seat.old.view b y }
+    requires first { (x y : Item) → HasItem seat.old.view a x → HasItem seat.old.view b y → Agree (part a_end x.span) (part b_end y.span) 1 }
+    ensures same { seat.new ≡ seat.old }
+    ensures order { (x y : Item) → HasItem seat.old.view a x → HasItem seat.old.view b y → result ≡ key_cmp (part a_end x.span) (part b_end y.span) }
+{
+    let len = read_len(rows, seat, a, a_end);
+    let other_len = read_len(rows, seat, b, b_end);
+    for i in 1..words_to(len.min(other_len)) {
+        let word = read_part(rows, seat, a, a_end, i);
+        let other = read_part(rows, seat, b, b_end, i);
+        if word != other {
+            return word.cmp(&other);
+        }
+    }
+    len.cmp(&other_len)
+}
+
+// How many words a number of bytes takes.
+fn words_to(len: u32) -> u32
+    requires { len ≤ 256 }
+    ensures low { result ≤ 32 }
+    ensures enough { len ≤ result * 8 }
+{
+    (len + 7) / 8
+}
+
+// The order of (request, place).
+fn ids_cmp(rows: &Rows, seat: &mut RowSeat, a: u32, b: u32) -> Ordering
+    requires table { seat.old.table ≡ rows.now }
+    requires one { (x : Item) × HasItem seat.old.view a x }
+    requires other { (y : Item) × HasItem seat.old.view b y }
+    ensures same { seat.new ≡ seat.old }
+    ensures order { (x y : Item) → HasItem seat.old.view a x → HasItem seat.old.view b y
+        → result ≡ ordering_then (nat_cmp x.id y.id) (nat_cmp x.place y.place) }
+{
+    let id = read_word(rows, seat, a, 2);
+    let other_id = read_word(rows, seat, b, 2);
+    if id != other_id {
+        return id.cmp(&other_id);
+    }
+    let place = read_word(rows, seat, a, 3);
+    let other_place = read_word(rows, seat, b, 3);
+    place.cmp(&other_place)
+}
+
+// Whether the span of an item is a single key.
+fn is_point(rows: &Rows, seat: &mut RowSeat, a: u32) -> bool
+    requires table { seat.old.table ≡ rows.now }
+    requires item { (x : Item) × HasItem seat.old.view a x }
+    ensures same { seat.new ≡ seat.old }
+    ensures point { (x : Item) → HasItem seat.old.view a x → result ≡ is_single x.span }
+{
+    read_word(rows, seat, a, 8) == 0
+}

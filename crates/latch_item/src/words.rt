@@ -1,0 +1,90 @@
+// What stands in each word of an item.
+ghost use Rattle.std.specs.Prelude.{◌≡◌, ℕ, ◌+◌, ◌*◌, ◌<◌, ◌≤◌, length};
+ghost use Rattle.latch_item.specs.Bytes.{byte, number, skip, key_word as key_word_of};
+ghost use Rattle.latch_item.specs.Items.{IsItemPlace, item_word as item_word_of};
+
+use hlc_stamp::Stamp;
+use span_key::Span;
+
+/// Eight bytes of a key, from the byte 8 i on, with zeros after the key's end.
+pub(crate) fn key_word(bytes: &[u8], i: u32) -> u64
+    requires { i < 32 }
+    ensures { result ≡ key_word_of bytes.now i }
+{
+    let at = i as usize * 8;
+    if at + 8 <= bytes.len() {
+        whole_word(bytes, at)
+    } else if at < bytes.len() {
+        last_word(bytes, at)
+    } else {
+        0
+    }
+}
+
+// Eight bytes that are all there.
+fn whole_word(bytes: &[u8], at: usize) -> u64
+    requires { at + 8 ≤ length bytes.now }
+    ensures { result ≡ number 8 (skip at bytes.now) }
+{
+    u64::from_be_bytes([
+        bytes[at],
+        bytes[at + 1],
+        bytes[at + 2],
+        bytes[at + 3],
+        bytes[at + 4],
+        bytes[at + 5],
+        bytes[at + 6],
+        bytes[at + 7],
+    ])
+}
+
+// Eight bytes, of which some may be past the end.
+fn last_word(bytes: &[u8], at: usize) -> u64
+    requires { at < 256 }
+    ensures { result ≡ number 8 (skip at bytes.now) }
+{
+    let mut word: u64 = 0;
+    for k in 0..8 {
+        word = word * 256 + byte_at(bytes, at + k);
+    }
+    word
+}
+
+// The byte at a place, and 0 after the end.
+fn byte_at(bytes: &[u8], at: usize) -> u64
+    ensures byte { result ≡ byte (skip at bytes.now) }
+    ensures low { result < 256 }
+{
+    match bytes.get(at) {
+        Some(byte) => *byte as u64,
+        None => 0,
+    }
+}
+
+/// The bytes of the end, none for a single key.
+pub(crate) fn end_bytes(span: &Span) -> &[u8]
+    ensures { result.now ≡ span.now.1 }
+{
+    match span.end() {
+        Some(end) => end.bytes(),
+        None => &[],
+    }
+}
+
+/// What stands in a word of an item.
+pub(crate) fn item_word(word: u32, id: u64, place: u32, lane: u32, span: &Span, stamp: Stamp) -> u64
+    requires { IsItemPlace word }
+    ensures { result ≡ item_word_of (record { id = id; place = place; lane = lane; span = span.now; stamp = stamp }) word }
+{
+    match word {
+        2 => id,
+        3 => place as u64,
+        4 => lane as u64,
+        5 => stamp.wall,
+        6 => stamp.logical as u64,
+        7 => span.key().bytes().len() as u64,
+        8 => end_bytes(span).len() as u64,
+        11..43 => key_word(span.key().bytes(), word - 11),
+        _ => key_word(end_bytes(span), word - 43),
+    }
+}
