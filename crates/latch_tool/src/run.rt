@@ -144,6 +144,7 @@ fn read_and_answer<S: Source>(alloc: Global, source: &mut S) -> Result<Answer, S
 {
     match read_all(alloc, source, TEXT_LIMIT) {
         Ok(input) => answer_to(alloc, input.as_slice()),
+        // The input as a whole is too long, so no line is named.
         Err(ReadFault::TooLong) => Ok(fault_answer(alloc, 0, 18)?),
         Err(ReadFault::Failed) => Err(Stop::ReadFault),
         Err(ReadFault::Memory) => Err(Stop::Memory),
