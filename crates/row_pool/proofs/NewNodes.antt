@@ -5,7 +5,7 @@ use Rattle.row_pool.specs.Lists.{find}
 use Rattle.row_pool.specs.Trees.{Entry}
 use Rattle.row_pool.specs.SeatView.{SeatView}
 use Rattle.row_pool.specs.Layout.{first_link, link_count, IsContent}
-use Rattle.row_pool.specs.Changes.{nil_links, written, turned_into, with_entry}
+use Rattle.row_pool.specs.Changes.{written, turned_into, with_entry}
 use Rattle.row_pool.specs.SeatState.{OnlyEntryChanges, IsNewNode}
 use Rattle.row_pool.specs.Chains.{HasMark}
 use Rattle.row_pool.specs.Loops.{HasZeros}

@@ -1,6 +1,6 @@
 -- Chains: lists of free rows that a seat owns, linked through word 1 of the rows.
-use Rattle.std.specs.Prelude.{◌≡◌, ◌⊎◌, ℕ, zero, suc, ◌+◌, ◌*◌, ◌/◌, ◌%◌, ◌-◌, ◌^◌, ◌<◌, ◌≤◌, List, [], ◌∷◌, ◌++◌, map, length, slice_index, slice_set, replicate, cond}
-use Rattle.std.specs.Prelude.{true, false, eqb, ltb, if◌then◌else◌, refl}
+use Rattle.std.specs.Prelude.{◌≡◌, ℕ, suc, ◌+◌, ◌<◌, ◌≤◌, List, [], ◌∷◌, ◌++◌, length}
+use Rattle.std.specs.Prelude.{true, false}
 use mathlib.Core.Option.{some, none}
 use Rattle.row_pool.specs.Lists.{find, mem}
 use Rattle.row_pool.specs.Trees.{Entry}

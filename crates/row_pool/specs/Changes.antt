@@ -1,8 +1,7 @@
 -- How the view of a seat changes by its calls.
-use Rattle.std.specs.Prelude.{◌≡◌, ◌⊎◌, ℕ, zero, suc, ◌+◌, ◌*◌, ◌/◌, ◌%◌, ◌-◌, ◌^◌, ◌<◌, ◌≤◌, List, [], ◌∷◌, ◌++◌, map, length, slice_index, slice_set, replicate, cond}
-use Rattle.std.specs.Prelude.{true, false, eqb, ltb, if◌then◌else◌, refl}
-use mathlib.Core.Option.{some, none}
-use lib.ListN.{get_elem?}
+use Rattle.std.specs.Prelude.{◌≡◌, ℕ, zero, suc, List, [], ◌∷◌, ◌++◌, map, slice_index, slice_set, replicate, cond}
+use Rattle.std.specs.Prelude.{eqb}
+use mathlib.Core.Option.{some}
 use Rattle.row_pool.specs.Lists.{find, without}
 use Rattle.row_pool.specs.Trees.{Tree, nil, row, Link, tree_word, words_of, children, Entry}
 use Rattle.row_pool.specs.SeatView.{SeatView}

@@ -1,6 +1,6 @@
 -- How a row of 80 words is laid out: its count in word 0, its kind in word 1, then its links and its content.
-use Rattle.std.specs.Prelude.{◌≡◌, ◌⊎◌, ℕ, zero, suc, ◌+◌, ◌*◌, ◌/◌, ◌%◌, ◌-◌, ◌^◌, ◌<◌, ◌≤◌, List, [], ◌∷◌, ◌++◌, map, length, slice_index, slice_set, replicate, cond}
-use Rattle.std.specs.Prelude.{true, false, eqb, ltb, if◌then◌else◌, refl}
+use Rattle.std.specs.Prelude.{◌⊎◌, ℕ, zero, suc, ◌+◌, ◌*◌, ◌/◌, ◌%◌, ◌<◌, ◌≤◌, List, slice_index}
+use Rattle.std.specs.Prelude.{eqb, ltb, if◌then◌else◌}
 
 -- word w of the row r
 abbrev pub cell : List ℕ → ℕ → ℕ → ℕ

@@ -1,14 +1,14 @@
 -- What the contracts say of a seat.
-use Rattle.std.specs.Prelude.{Option as Maybe, None, Some, ◌≡◌, ◌⊎◌, ℕ, zero, suc, ◌+◌, ◌*◌, ◌/◌, ◌%◌, ◌-◌, ◌^◌, ◌<◌, ◌≤◌, List, [], ◌∷◌, ◌++◌, map, length, slice_index, slice_set, replicate, cond}
-use Rattle.std.specs.Prelude.{true, false, eqb, ltb, if◌then◌else◌, refl}
-use mathlib.Core.Option.{some, none}
+use Rattle.std.specs.Prelude.{Option as Maybe, None, Some, ◌≡◌, ◌⊎◌, ℕ, zero, suc, ◌+◌, ◌*◌, List, [], slice_index}
+use Rattle.std.specs.Prelude.{false, refl}
+use mathlib.Core.Option.{some}
 use lib.ListN.{get_elem?}
 use package.base.Stored.{Coded, coded_ℕ, coded×}
 use denote.Struct.Codes.{code_by}
 use Rattle.atomic_table.specs.Seated.{TableId, table_id_coded}
 use Rattle.atomic_table.specs.Table.{Me}
 use Rattle.row_pool.specs.Lists.{find, mem}
-use Rattle.row_pool.specs.Trees.{Tree, Link, Entry, tree_word, children, words_of}
+use Rattle.row_pool.specs.Trees.{Tree, Link, Entry, tree_word, words_of}
 use Rattle.row_pool.specs.SeatView.{SeatView, view_coded}
 use Rattle.row_pool.specs.Layout.{first_link, link_count}
 use Rattle.row_pool.specs.Changes.{nil_links}

@@ -18,7 +18,10 @@ ghost use Rattle.row_pool.specs.Chains.{IsChain, HasMark, ChainGrows};
 ghost use Rattle.row_pool.specs.Loops.{HasZeros};
 
 use crate::chain::Chain;
-use crate::steps::{JoinViews, SplitRefs, Free, Hold, Read, DropRef, Note, OwnIfSingle, MovedRows, Publish, SetLink, SetKind, Write};
+use crate::steps::{
+    DropRef, Free, Hold, JoinViews, MovedRows, Note, OwnIfSingle, Publish, Read, SetKind, SetLink,
+    SplitRefs, Write,
+};
 use crate::view::{CountRule, View};
 use atomic_table::{Seat, Table};
 use std::alloc::Global;
@@ -77,6 +80,7 @@ impl RowSeat {
 
 /// The first link word of a node, and the number of its links.
 const NODE_LINK: u32 = 3;
+
 const NODE_LINKS: u32 = 64;
 
 // How many counted links a row of this kind has.
@@ -404,7 +408,9 @@ impl Rows {
             seat: taken,
             follows: _,
         } = other;
-        self.table.shared.join_seat::<JoinViews>(&mut seat.seat, taken);
+        self.table
+            .shared
+            .join_seat::<JoinViews>(&mut seat.seat, taken);
         self.table.shared.load::<Read>(&mut seat.seat, 0);
     }
 

@@ -4,7 +4,7 @@ use Rattle.row_pool.specs.Lists.{find}
 use Rattle.row_pool.specs.Trees.{Entry}
 use Rattle.row_pool.specs.SeatState.{SeatState, SeatInvariant}
 use Rattle.row_pool.proofs.Allowed.{notes-allowed}
-use Rattle.row_pool.proofs.Access.{good-still, at-word}
+use Rattle.row_pool.proofs.Access.{at-word}
 use Rattle.row_pool.proofs.rows.Rows.note.Goals as goal
 
 pub load-requires : goal.load-requires
