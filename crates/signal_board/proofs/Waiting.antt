@@ -9,7 +9,7 @@ use Rattle.latch_model.specs.declared.history.Entry.{Entry}
 use Rattle.latch_model.specs.declared.history.Sizes.{Sizes}
 use Rattle.latch_model.proofs.Counting.{begin_is}
 use Rattle.latch_model.proofs.Lists.{In, In-from_Contains}
-use Rattle.signal_board.specs.Rule.{InLane, IsPrerequisite, begun_as}
+use Rattle.signal_board.specs.Rule.{InLane, IsPrerequisite}
 use Rattle.signal_board.specs.Says.{LaneSays, shown_to, told_cause, told_end}
 use Rattle.signal_board.specs.Steps.{known, new_request}
 use Rattle.signal_board.specs.Views.{RequestView}
