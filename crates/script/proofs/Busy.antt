@@ -1,5 +1,6 @@
 -- Which sessions have a live name, command by command.
-use Rattle.std.proofs.Common.{◌≡◌, ◌≢◌, ℕ, ◌<◌, ◌⊎◌, Bool, true, false, not, cond, eqb, List, length, get_or, set, Option, Some, None, refl, sym, ap, subst, ◌∙◌, inl, inr, arith}
+use Rattle.std.proofs.Common.{◌≡◌, ◌≢◌, ℕ, ◌<◌, ◌⊎◌, Bool, true, false, not, cond, eqb, List, length, get_or, set, Option, Some, None, refl, sym, ap}
+use Rattle.std.proofs.Common.{subst, ◌∙◌, inl, inr, arith}
 use Rattle.std.specs.Option.{option_map}
 use Rattle.std.proofs.lemmas.Bool.{eqb-true, eq-eqb, cases_lt}
 use Rattle.std.proofs.lemmas.Bool.Decides.{eqb_tells}
@@ -30,7 +31,8 @@ below : (busy : List Bool) (s : ℕ) → get_or busy s false ≡ true → s < le
 below busy s e =
     elim (cases_lt s (length busy)) [ inl lt ↦ lt | inr le ↦ absurd (false-true (sym (get_or_past busy s false le) ∙ e)) ]
 
-pub keep_sessions : (old new : List ℕ → Option Opened) (busy : List Bool) → ((s : ℕ) (q : List ℕ) → open_in s (new q) ≡ open_in s (old q)) → Sessions old busy → Sessions new busy
+pub keep_sessions : (old new : List ℕ → Option Opened) (busy : List Bool) → ((s : ℕ) (q : List ℕ) → open_in s (new q) ≡ open_in s (old q)) → Sessions old busy
+    → Sessions new busy
 keep_sessions old new busy same k = record {
   size = k.size;
   some = λ s h. let w = k.some s h in (w.0, same s w.0 ∙ w.1);
@@ -44,7 +46,8 @@ keep_sessions old new busy same k = record {
 abbrev Either : (List ℕ → Option Opened) → (List ℕ → Option Opened) → List ℕ → Option Opened → List ℕ → Type 0
 Either old new name x q = ((q ≡ name) × (new q ≡ x)) ⊎ ((same_name name q ≡ false) × (new q ≡ old q))
 
-either : (old new : List ℕ → Option Opened) (name : List ℕ) (x : Option Opened) (q : List ℕ) → new q ≡ cond (same_name name q) x (old q) → Either old new name x q
+either : (old new : List ℕ → Option Opened) (name : List ℕ) (x : Option Opened) (q : List ℕ) → new q ≡ cond (same_name name q) x (old q)
+    → Either old new name x q
 either old new name x q e =
     elim (chosen (same_name name q) x (old q) (new q) e) [ inl h ↦ inl (sym (same_is name q h.0), h.1) | inr h ↦ inr h ]
 
@@ -66,11 +69,16 @@ pub record Opens (old new : List ℕ → Option Opened) (busy : List Bool) (name
   pub low : o.session < 65
   pub fresh : o.released ≡ false
 
-some_opened : {old new : List ℕ → Option Opened} {busy : List Bool} {name : List ℕ} {o : Opened} → Opens old new busy name o → (s : ℕ) → get_or (set busy o.session true) s false ≡ true
+some_opened : {old new : List ℕ → Option Opened} {busy : List Bool} {name : List ℕ} {o : Opened} → Opens old new busy name o → (s : ℕ)
+    → get_or (set busy o.session true) s false ≡ true
     → (q : List ℕ) × is_open s (new q)
 some_opened {old} {new} {busy} {name} {o} k s h =
     elim (places s o.session) [
-      | inl e ↦ (name, ap (open_in s) (k.is name ∙ ap (λ (b : Bool). cond b (Some o) (old name)) (same_self name)) ∙ ap (λ (x : ℕ). open_in x (Some o)) e ∙ opened_so o k.fresh)
+      | inl e ↦ (
+        name,
+        ap (open_in s) (k.is name ∙ ap (λ (b : Bool). cond b (Some o) (old name)) (same_self name)) ∙ ap (λ (x : ℕ). open_in x (Some o)) e
+            ∙ opened_so o k.fresh,
+      )
       | inr ne ↦
           let w = k.was.some s (sym (get_or-set_other busy o.session s true false ne) ∙ h) in
           elim (either old new name (Some o) w.0 (k.is w.0)) [
@@ -79,7 +87,8 @@ some_opened {old} {new} {busy} {name} {o} k s h =
           ]
     ]
 
-each_opened : {old new : List ℕ → Option Opened} {busy : List Bool} {name : List ℕ} {o : Opened} → Opens old new busy name o → (s : ℕ) (q : List ℕ) → is_open s (new q)
+each_opened : {old new : List ℕ → Option Opened} {busy : List Bool} {name : List ℕ} {o : Opened} → Opens old new busy name o → (s : ℕ) (q : List ℕ)
+    → is_open s (new q)
     → get_or (set busy o.session true) s false ≡ true
 each_opened {old} {new} {busy} {name} {o} k s q h =
     let lt : o.session < length busy = omega (arith, k.was.size, k.low) in
@@ -92,10 +101,12 @@ each_opened {old} {new} {busy} {name} {o} k s q h =
     ]
 
 -- no name that was there before is open for the session of the new one
-taken : {old new : List ℕ → Option Opened} {busy : List Bool} {name : List ℕ} {o : Opened} → Opens old new busy name o → (s : ℕ) (q : List ℕ) → s ≡ o.session → is_open s (old q) → ⊥
+taken : {old new : List ℕ → Option Opened} {busy : List Bool} {name : List ℕ} {o : Opened} → Opens old new busy name o → (s : ℕ) (q : List ℕ) → s ≡ o.session
+    → is_open s (old q) → ⊥
 taken {old} {new} {busy} {name} {o} k s q e h = false-true (sym k.idle ∙ ap (λ (x : ℕ). get_or busy x false) (sym e) ∙ k.was.each s q h)
 
-one_opened : {old new : List ℕ → Option Opened} {busy : List Bool} {name : List ℕ} {o : Opened} → Opens old new busy name o → (s : ℕ) (q r : List ℕ) → is_open s (new q) → is_open s (new r) → q ≡ r
+one_opened : {old new : List ℕ → Option Opened} {busy : List Bool} {name : List ℕ} {o : Opened} → Opens old new busy name o → (s : ℕ) (q r : List ℕ)
+    → is_open s (new q) → is_open s (new r) → q ≡ r
 one_opened {old} {new} {busy} {name} {o} k s q r hq hr =
     elim (either old new name (Some o) q (k.is q)) [
       | inl p ↦ elim (either old new name (Some o) r (k.is r)) [
@@ -108,7 +119,8 @@ one_opened {old} {new} {busy} {name} {o} k s q r hq hr =
       ]
     ]
 
-pub open_sessions : {old new : List ℕ → Option Opened} {busy : List Bool} {name : List ℕ} {o : Opened} → Opens old new busy name o → Sessions new (set busy o.session true)
+pub open_sessions : {old new : List ℕ → Option Opened} {busy : List Bool} {name : List ℕ} {o : Opened} → Opens old new busy name o
+    → Sessions new (set busy o.session true)
 open_sessions {old} {new} {busy} {name} {o} k = record {
   size = length-set busy o.session true ∙ k.was.size;
   some = λ s h. some_opened k s h;
@@ -122,7 +134,8 @@ open_waits : (s : ℕ) (x : Option Opened) → open_in s (option_map waits x) �
 open_waits s None = refl
 open_waits s (Some o) = refl
 
-pub wait_sessions : (old new : List ℕ → Option Opened) (busy : List Bool) (name : List ℕ) → ((q : List ℕ) → new q ≡ cond (same_name name q) (option_map waits (old q)) (old q)) → Sessions old busy → Sessions new busy
+pub wait_sessions : (old new : List ℕ → Option Opened) (busy : List Bool) (name : List ℕ)
+    → ((q : List ℕ) → new q ≡ cond (same_name name q) (option_map waits (old q)) (old q)) → Sessions old busy → Sessions new busy
 wait_sessions old new busy name is k =
     keep_sessions old new busy (λ s q. elim (chosen (same_name name q) (option_map waits (old q)) (old q) (new q) (is q)) [
       | inl p ↦ ap (open_in s) p.1 ∙ open_waits s (old q)
@@ -143,7 +156,8 @@ not_open s None h = false-true h
 not_open s (Some o) h = false-true (and_parts (eqb o.session s) false h).1
 
 -- a name that is open afterwards is another one, and was open before
-other : {old new : List ℕ → Option Opened} {busy : List Bool} {name : List ℕ} {o : Opened} → Ends old new busy name o → (s : ℕ) (q : List ℕ) → is_open s (new q) → (same_name name q ≡ false) × is_open s (old q)
+other : {old new : List ℕ → Option Opened} {busy : List Bool} {name : List ℕ} {o : Opened} → Ends old new busy name o → (s : ℕ) (q : List ℕ)
+    → is_open s (new q) → (same_name name q ≡ false) × is_open s (old q)
 other {old} {new} {busy} {name} {o} k s q h =
     elim (chosen (same_name name q) (option_map ended (old q)) (old q) (new q) (k.is q)) [
       | inl p ↦ absurd (not_open s (old q) (open_along s (new q) (option_map ended (old q)) p.1 h))
@@ -156,7 +170,8 @@ mine_open {old} {new} {busy} {name} {o} k = open_along o.session (Some o) (old n
 pub session_low : {old new : List ℕ → Option Opened} {busy : List Bool} {name : List ℕ} {o : Opened} → Ends old new busy name o → o.session < length busy
 session_low {old} {new} {busy} {name} {o} k = below busy o.session (k.was.each o.session name (mine_open k))
 
-some_ended : {old new : List ℕ → Option Opened} {busy : List Bool} {name : List ℕ} {o : Opened} → Ends old new busy name o → (s : ℕ) → get_or (set busy o.session false) s false ≡ true
+some_ended : {old new : List ℕ → Option Opened} {busy : List Bool} {name : List ℕ} {o : Opened} → Ends old new busy name o → (s : ℕ)
+    → get_or (set busy o.session false) s false ≡ true
     → (q : List ℕ) × is_open s (new q)
 some_ended {old} {new} {busy} {name} {o} k s h =
     elim (places s o.session) [
@@ -169,7 +184,8 @@ some_ended {old} {new} {busy} {name} {o} k s h =
           ]
     ]
 
-each_ended : {old new : List ℕ → Option Opened} {busy : List Bool} {name : List ℕ} {o : Opened} → Ends old new busy name o → (s : ℕ) (q : List ℕ) → is_open s (new q)
+each_ended : {old new : List ℕ → Option Opened} {busy : List Bool} {name : List ℕ} {o : Opened} → Ends old new busy name o → (s : ℕ) (q : List ℕ)
+    → is_open s (new q)
     → get_or (set busy o.session false) s false ≡ true
 each_ended {old} {new} {busy} {name} {o} k s q h =
     let w = other k s q h in
@@ -180,7 +196,8 @@ each_ended {old} {new} {busy} {name} {o} k s q h =
       | inr ne ↦ get_or-set_other busy o.session s false false ne ∙ k.was.each s q w.1
     ]
 
-pub end_sessions : {old new : List ℕ → Option Opened} {busy : List Bool} {name : List ℕ} {o : Opened} → Ends old new busy name o → Sessions new (set busy o.session false)
+pub end_sessions : {old new : List ℕ → Option Opened} {busy : List Bool} {name : List ℕ} {o : Opened} → Ends old new busy name o
+    → Sessions new (set busy o.session false)
 end_sessions {old} {new} {busy} {name} {o} k = record {
   size = length-set busy o.session false ∙ k.was.size;
   some = λ s h. some_ended k s h;

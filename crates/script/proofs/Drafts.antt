@@ -1,5 +1,6 @@
 -- What a draft keeps answers the rules over names and sessions.
-use Rattle.std.proofs.Common.{◌≡◌, ℕ, zero, suc, Bool, true, false, not, ◌&&◌, eqb, List, [], ◌∷◌, length, get_or, Option, Some, None, refl, sym, ap, subst, ◌∙◌, inl, inr, arith, replicate}
+use Rattle.std.proofs.Common.{◌≡◌, ℕ, zero, suc, Bool, true, false, not, ◌&&◌, cond, eqb, List, [], ◌∷◌, length, get_or, Option, Some, None, refl, sym}
+use Rattle.std.proofs.Common.{ap, subst, ◌∙◌, inl, inr, arith, replicate}
 use Rattle.std.specs.List.{list_any}
 use Rattle.std.specs.Option.{is_some}
 use Rattle.std.proofs.lemmas.Bool.{cases_lt, eq-eqb}
@@ -7,6 +8,7 @@ use Rattle.std.proofs.lemmas.Bool.Decides.{same_from_decides}
 use Rattle.std.proofs.lemmas.List.{length-replicate, get_or-replicate, get_or_past}
 use Rattle.script.specs.Commands.{same_name, opens_live, releases, waits_for, is_used, is_live, is_busy, is_checkable, leaves_live, some_live}
 use Rattle.script.specs.Names.{Keeps, Tracks, find, used_in, owned_by, optimistic_in, waited_in, released_in, open_in, opens_for}
+use Rattle.script.specs.Scripts.{is_name}
 use Rattle.script.specs.declared.command.Command.{Command}
 use Rattle.script.specs.declared.command.Command.TheVariants.{Begin, Wait, Check, Poison, Release, Metrics}
 use Rattle.script.specs.declared.draft.Draft.{Draft}
@@ -16,8 +18,12 @@ use Rattle.script.proofs.Busy.{same_is, same_self}
 
 -- ---- no commands
 
+none_either : (b : Bool) → cond {A = Option Opened} b None None ≡ None
+none_either true = refl
+none_either false = refl
+
 no_name : (d : Draft) → d.opened.entries ≡ [] → (q : List ℕ) → find d q ≡ None
-no_name d e q = rw e refl
+no_name d e q = rw e (none_either (is_name q))
 
 none_false : (s : ℕ) → get_or (replicate 65 false) s false ≡ true → ⊥
 none_false s h =
@@ -51,8 +57,12 @@ live_some cs [] s h = absurd (false-true h)
 live_some cs (Begin session name mode policy turns latches ∷ ds) s h =
     elim (or_cases ((eqb session s) && is_live cs name) (list_any (opens_live cs s) ds) h) [
       | inl here ↦
-          let w = and_parts (eqb session s) (is_live cs name) here in
-          (name, or_left ((eqb session s) && same_name name name) (list_any (opens_for s name) ds) (and_both (eqb session s) (same_name name name) w.0 (same_self name)), w.1)
+          let w = and_parts (eqb session s) (is_live cs name) here in (
+            name,
+            or_left ((eqb session s) && same_name name name) (list_any (opens_for s name) ds)
+                (and_both (eqb session s) (same_name name name) w.0 (same_self name)),
+            w.1,
+          )
       | inr later ↦
           let w = live_some cs ds s later in
           (w.0, or_right ((eqb session s) && same_name name w.0) (list_any (opens_for s w.0) ds) w.1, w.2)
@@ -69,7 +79,8 @@ live_from cs (Begin session name mode policy turns latches ∷ ds) s q h live =
     elim (or_cases ((eqb session s) && same_name name q) (list_any (opens_for s q) ds) h) [
       | inl here ↦
           let w = and_parts (eqb session s) (same_name name q) here in
-          or_left ((eqb session s) && is_live cs name) (list_any (opens_live cs s) ds) (and_both (eqb session s) (is_live cs name) w.0 (ap (is_live cs) (same_is name q w.1) ∙ live))
+          or_left ((eqb session s) && is_live cs name) (list_any (opens_live cs s) ds)
+          (and_both (eqb session s) (is_live cs name) w.0 (ap (is_live cs) (same_is name q w.1) ∙ live))
       | inr later ↦ or_right ((eqb session s) && is_live cs name) (list_any (opens_live cs s) ds) (live_from cs ds s q later live)
     ]
 live_from cs (Wait name ∷ ds) s q h live = live_from cs ds s q h live
@@ -96,7 +107,11 @@ some_session : (cs ds : List Command) → list_any (leaves_live cs) ds ≡ true 
 some_session cs [] h = absurd (false-true h)
 some_session cs (Begin session name mode policy turns latches ∷ ds) h =
     elim (or_cases (is_live cs name) (list_any (leaves_live cs) ds) h) [
-      | inl here ↦ (session, or_left ((eqb session session) && is_live cs name) (list_any (opens_live cs session) ds) (and_both (eqb session session) (is_live cs name) (eq-eqb session session refl) here))
+      | inl here ↦ (
+        session,
+        or_left ((eqb session session) && is_live cs name) (list_any (opens_live cs session) ds)
+            (and_both (eqb session session) (is_live cs name) (eq-eqb session session refl) here),
+      )
       | inr later ↦
           let w = some_session cs ds later in
           (w.0, or_right ((eqb session w.0) && is_live cs name) (list_any (opens_live cs w.0) ds) w.1)
@@ -113,10 +128,12 @@ pub used_is : (d : Draft) (q : List ℕ) → Keeps d → is_used d.commands.item
 used_is d q k = k.tracks.used q
 
 pub live_is : (d : Draft) (q : List ℕ) → Keeps d → is_live d.commands.items q ≡ (used_in (find d q) && not (released_in (find d q)))
-live_is d q k = ap (λ (b : Bool). b && not (list_any (releases q) d.commands.items)) (k.tracks.used q) ∙ ap (λ (b : Bool). used_in (find d q) && not b) (k.tracks.released q)
+live_is d q k = ap (λ (b : Bool). b && not (list_any (releases q) d.commands.items)) (k.tracks.used q)
+    ∙ ap (λ (b : Bool). used_in (find d q) && not b) (k.tracks.released q)
 
 pub checkable_is : (d : Draft) (q : List ℕ) → Keeps d → is_checkable d.commands.items q ≡ (optimistic_in (find d q) && not (waited_in (find d q)))
-checkable_is d q k = ap (λ (b : Bool). b && not (list_any (waits_for q) d.commands.items)) (k.tracks.optimistic q) ∙ ap (λ (b : Bool). optimistic_in (find d q) && not b) (k.tracks.waited q)
+checkable_is d q k = ap (λ (b : Bool). b && not (list_any (waits_for q) d.commands.items)) (k.tracks.optimistic q)
+    ∙ ap (λ (b : Bool). optimistic_in (find d q) && not b) (k.tracks.waited q)
 
 open_parts : (s : ℕ) (x : Option Opened) → open_in s x ≡ true → (owned_by s x ≡ true) × ((used_in x && not (released_in x)) ≡ true)
 open_parts s None h = absurd (false-true h)

@@ -6,7 +6,8 @@ use Rattle.latch_model.specs.Declaration.{Declaration}
 use Rattle.latch_model.specs.declared.history.Entry.{Entry}
 use Rattle.latch_model.specs.declared.history.Grant.TheVariants.{Never, Checked}
 use Rattle.script.specs.Conflicting.{checked_first, checked_second, checking, one_by_one, one_session, two_blocks, two_sessions, waiting_behind}
-use Rattle.script.specs.Conflicting.{with_another_line, with_session_three, with_sessions_exchanged, without_an_end, without_latches, without_session_two, written}
+use Rattle.script.specs.Conflicting.{with_another_line, with_session_three, with_sessions_exchanged, without_an_end, without_latches}
+use Rattle.script.specs.Conflicting.{without_session_two, written}
 use Rattle.script.specs.Follows.{Follows, FollowsScript, HasNoOthers, is_session_of, session_of}
 use Rattle.script.specs.declared.command.Command.{Command}
 
@@ -63,8 +64,10 @@ session_three f =
 
 pub blocks_in_order : FollowsScript (two_blocks 2 4) one_session
 blocks_in_order = record {
-  each = λ w is. subst (λ (v : ℕ). Follows (two_blocks 2 4) v one_session) (sym (sessions_of_one w is))
-      (record { mode = refl; declared = refl; same_request = refl; ends = refl }, (record { mode = refl; declared = refl; same_request = refl; ends = refl }, tt));
+  each = λ w is. subst (λ (v : ℕ). Follows (two_blocks 2 4) v one_session) (sym (sessions_of_one w is)) (
+    record { mode = refl; declared = refl; same_request = refl; ends = refl },
+    (record { mode = refl; declared = refl; same_request = refl; ends = refl }, tt),
+  );
   no_others = All-from_recursion (λ e. IsTrue (is_session_of one_session (session_of e))) (two_blocks 2 4) (refl, (refl, (refl, (refl, tt))));
 }
 

@@ -26,7 +26,8 @@ pub record Moves (old new : Option Opened) (c : Command) (q : List ℕ) : Type 0
 more : (p : Command → Bool) (cs : List Command) (c : Command) (b : Bool) → list_any p cs ≡ b → list_any p (cs ++ c ∷ []) ≡ (b || p c)
 more p cs c b e = list_any-append p cs (c ∷ []) ∙ ap (λ (x : Bool). x || (p c || false)) e ∙ ap (λ (x : Bool). b || x) (sym (or_no (p c)))
 
-pub track : (old new : List ℕ → Option Opened) (cs : List Command) (c : Command) → Tracks old cs → ((q : List ℕ) → Moves (old q) (new q) c q) → Tracks new (cs ++ c ∷ [])
+pub track : (old new : List ℕ → Option Opened) (cs : List Command) (c : Command) → Tracks old cs → ((q : List ℕ) → Moves (old q) (new q) c q)
+    → Tracks new (cs ++ c ∷ [])
 track old new cs c t m = record {
   used = λ q. more (opens q) cs c (used_in (old q)) (t.used q) ∙ sym (m q).used;
   owner = λ q s. more (opens_for s q) cs c (owned_by s (old q)) (t.owner q s) ∙ sym ((m q).owner s);
@@ -38,22 +39,45 @@ track old new cs c t m = record {
 -- ---- commands that change nothing of what is kept
 
 pub check_moves : (x : Option Opened) (name q : List ℕ) (latches : List Latch) → Moves x x (Check name latches) q
-check_moves x name q latches = record { used = or_no (used_in x); owner = λ s. or_no (owned_by s x); optimistic = or_no (optimistic_in x); waited = or_no (waited_in x); released = or_no (released_in x) }
+check_moves x name q latches = record {
+  used = or_no (used_in x);
+  owner = λ s. or_no (owned_by s x);
+  optimistic = or_no (optimistic_in x);
+  waited = or_no
+      (waited_in x);
+  released = or_no (released_in x);
+}
 
 pub poison_moves : (x : Option Opened) (name q : List ℕ) → Moves x x (Poison name) q
-poison_moves x name q = record { used = or_no (used_in x); owner = λ s. or_no (owned_by s x); optimistic = or_no (optimistic_in x); waited = or_no (waited_in x); released = or_no (released_in x) }
+poison_moves x name q = record {
+  used = or_no (used_in x);
+  owner = λ s. or_no (owned_by s x);
+  optimistic = or_no (optimistic_in x);
+  waited = or_no
+      (waited_in x);
+  released = or_no (released_in x);
+}
 
 pub metrics_moves : (x : Option Opened) (q : List ℕ) → Moves x x Metrics q
-metrics_moves x q = record { used = or_no (used_in x); owner = λ s. or_no (owned_by s x); optimistic = or_no (optimistic_in x); waited = or_no (waited_in x); released = or_no (released_in x) }
+metrics_moves x q = record {
+  used = or_no (used_in x);
+  owner = λ s. or_no (owned_by s x);
+  optimistic = or_no (optimistic_in x);
+  waited = or_no
+      (waited_in x);
+  released = or_no (released_in x);
+}
 
 -- ---- an opening, of a name that isn't used
 
-opens_as : (session : ℕ) (name q : List ℕ) (mode : Mode) (policy : Policy) (turns : Option ℕ) (latches : List Latch) → same_name name q ≡ true → is_optimistic mode ≡ opens_optimistic q (Begin session name mode policy turns latches)
+opens_as : (session : ℕ) (name q : List ℕ) (mode : Mode) (policy : Policy) (turns : Option ℕ) (latches : List Latch) → same_name name q ≡ true
+    → is_optimistic mode ≡ opens_optimistic q (Begin session name mode policy turns latches)
 opens_as session name q Acquire policy turns latches e = refl
 opens_as session name q Optimistic policy turns latches e = sym e
 opens_as session name q Look policy turns latches e = refl
 
-opens_other : (session : ℕ) (name q : List ℕ) (mode : Mode) (policy : Policy) (turns : Option ℕ) (latches : List Latch) → same_name name q ≡ false → opens_optimistic q (Begin session name mode policy turns latches) ≡ false
+opens_other : (session : ℕ) (name q : List ℕ) (mode : Mode) (policy : Policy) (turns : Option ℕ) (latches : List Latch) → same_name name q ≡ false
+    → opens_optimistic q (Begin session name mode policy turns latches) ≡ false
 opens_other session name q Acquire policy turns latches e = refl
 opens_other session name q Optimistic policy turns latches e = e
 opens_other session name q Look policy turns latches e = refl
@@ -64,7 +88,8 @@ pub record Fresh (o : Opened) (who : ℕ) (mode : Mode) : Type 0 where
   pub waited : o.waited ≡ false
   pub released : o.released ≡ false
 
-pub begin_moves : (session : ℕ) (name : List ℕ) (mode : Mode) (policy : Policy) (turns : Option ℕ) (latches : List Latch) (o : Opened) (q : List ℕ) (old : Option Opened) (b : Bool) → same_name name q ≡ b
+pub begin_moves : (session : ℕ) (name : List ℕ) (mode : Mode) (policy : Policy) (turns : Option ℕ) (latches : List Latch) (o : Opened) (q : List ℕ)
+    (old : Option Opened) (b : Bool) → same_name name q ≡ b
     → (b ≡ true → old ≡ None) → Fresh o session mode → Moves old (cond b (Some o) old) (Begin session name mode policy turns latches) q
 begin_moves session name mode policy turns latches o q None true e h f = record {
   used = sym e;
@@ -84,7 +109,8 @@ begin_moves session name mode policy turns latches o q old false e h f = record 
 
 -- ---- a wait and a release, of a name that is used
 
-pub wait_moves : (name q : List ℕ) (old : Option Opened) (b : Bool) → same_name name q ≡ b → (b ≡ true → used_in old ≡ true) → Moves old (cond b (option_map waits old) old) (Wait name) q
+pub wait_moves : (name q : List ℕ) (old : Option Opened) (b : Bool) → same_name name q ≡ b → (b ≡ true → used_in old ≡ true)
+    → Moves old (cond b (option_map waits old) old) (Wait name) q
 wait_moves name q None true e h = let u : false ≡ true = h refl in absurd cc
 wait_moves name q (Some x) true e h = record {
   used = refl;
@@ -101,7 +127,8 @@ wait_moves name q old false e h = record {
   released = or_no (released_in old);
 }
 
-pub release_moves : (name q : List ℕ) (old : Option Opened) (b : Bool) → same_name name q ≡ b → (b ≡ true → used_in old ≡ true) → Moves old (cond b (option_map ended old) old) (Release name) q
+pub release_moves : (name q : List ℕ) (old : Option Opened) (b : Bool) → same_name name q ≡ b → (b ≡ true → used_in old ≡ true)
+    → Moves old (cond b (option_map ended old) old) (Release name) q
 release_moves name q None true e h = let u : false ≡ true = h refl in absurd cc
 release_moves name q (Some x) true e h = record {
   used = refl;

@@ -6,6 +6,7 @@ pub mod Kept
 pub mod Ascii
 pub mod Busy
 pub mod Drafts
+pub mod Packed
 pub mod Maps
 pub mod Noted
 pub mod Laws

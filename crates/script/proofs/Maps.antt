@@ -1,35 +1,114 @@
--- A map by names, after a change at one of them.
-use Rattle.std.proofs.Common.{◌≡◌, ℕ, Bool, true, false, cond, List, Option, Some, None, Global, refl, sym, ap, ◌∙◌}
-use Rattle.std.specs.BTreeMap.{BTreeMap, get_by_text, UpdatesBy}
-use Rattle.std.specs.Cmp.Lexicographic.{slice_cmp}
-use Rattle.std.specs.Option.{option_map}
-use Rattle.std.specs.Ordering.{nat_cmp}
-use Rattle.std.specs.Prelude.{String}
-use Rattle.std.specs.String.{string_bytes, string_cmp}
-use Rattle.std.proofs.lemmas.Map.Text.{btree_map_updates_text}
+-- What is kept of names, after a change at one of them.
+use Rattle.std.proofs.Common.{◌≡◌, ℕ, Bool, true, false, cond, eqb, List, Option, Some, None, IsTrue, refl, sym, ap, subst, ◌∙◌, arith}
+use Rattle.std.specs.HashMap.{HashMap, get}
+use Rattle.std.specs.Option.{option_map, IfSome}
+use Rattle.std.specs.Prelude.{nat_eq}
+use Rattle.std.proofs.lemmas.Bool.{eqb-true, eq-eqb, false_from_ne_true}
 use Rattle.script.specs.Commands.{same_name}
+use Rattle.script.specs.Names.{packed}
+use Rattle.script.specs.Scripts.{is_name}
 use Rattle.script.specs.declared.draft.Opened.{Opened}
-use Rattle.script.proofs.Busy.{same_is}
+use Rattle.script.proofs.Busy.{same_is, same_self}
+use Rattle.script.proofs.Choices.{false-true}
+use Rattle.script.proofs.Packed.{names_apart}
 
--- what was changed by f is the value by f
-changed : (f : Opened → Opened) (o : Opened) (b : Bool) (x : Option Opened) → (b ≡ true → x ≡ Some o) → cond b (Some (f o)) x ≡ cond b (option_map f x) x
-changed f o true x h = sym (ap (option_map f) (h refl))
-changed f o false x h = refl
+-- what is kept of a name, where f has it of the name's number
+abbrev found : (ℕ → Option Opened) → List ℕ → Option Opened
+found f q = cond (is_name q) (f (packed q)) None
 
-pub marked : (m n : BTreeMap (String Global) Opened) (bs : List ℕ) (f : Opened → Opened) (o : Opened) → get_by_text m bs ≡ Some o
-    → UpdatesBy string_cmp (λ k. slice_cmp nat_cmp bs (string_bytes k)) m n (Some (f o)) → (q : List ℕ) → get_by_text n q ≡ cond (same_name bs q) (option_map f (get_by_text m q)) (get_by_text m q)
-marked m n bs f o e u q =
-    btree_map_updates_text bs m n (Some (f o)) u q ∙ changed f o (same_name bs q) (get_by_text m q) (λ h. ap (get_by_text m) (sym (same_is bs q h)) ∙ e)
+other_number : (name q : List ℕ) → IsTrue (is_name name) → IsTrue (is_name q) → same_name name q ≡ false → eqb (packed name) (packed q) ≡ false
+other_number name q ok is other =
+    false_from_ne_true (eqb (packed name) (packed q)) (λ e.
+    let same : name ≡ q = names_apart name q ok is (eqb-true (packed name) (packed q) e) in
+    false-true (sym other ∙ subst (λ (x : List ℕ). same_name name x ≡ true) same (same_self name)))
 
-none_changed : (f : Opened → Opened) (b : Bool) (x : Option Opened) → (b ≡ true → x ≡ None) → x ≡ cond b (option_map f x) x
-none_changed f true x h = h refl ∙ sym (ap (option_map f) (h refl))
-none_changed f false x h = refl
+changed_at : (f g : ℕ → Option Opened) (name : List ℕ) (w : Option Opened) (b : Bool) → IsTrue (is_name name)
+    → ((k : ℕ) → g k ≡ cond (eqb (packed name) k) w (f k)) → (q : List ℕ) → same_name name q ≡ b → found g q ≡ cond b w (found f q)
+changed_at f g name w true ok h q e =
+    let same : name ≡ q = same_is name q e in
+    let number : eqb (packed name) (packed name) ≡ true = eq-eqb (packed name) (packed name) refl in
+    let here : g (packed name) ≡ w = h (packed name) ∙ rw number refl in
+    let is : found g name ≡ g (packed name) = rw ok refl in
+    ap (found g) (sym same) ∙ is ∙ here
+changed_at f g name w false ok h q e = by (is_name q) refl
+  where
+    by : (b : Bool) → is_name q ≡ b → cond b (g (packed q)) None ≡ cond b (f (packed q)) None
+    by true is = h (packed q) ∙ rw (other_number name q ok is e) refl
+    by false is = refl
 
--- where the name isn't in the map nothing changes
-pub unmarked : (m : BTreeMap (String Global) Opened) (bs : List ℕ) (f : Opened → Opened) → get_by_text m bs ≡ None
-    → (q : List ℕ) → get_by_text m q ≡ cond (same_name bs q) (option_map f (get_by_text m q)) (get_by_text m q)
-unmarked m bs f e q = none_changed f (same_name bs q) (get_by_text m q) (λ h. ap (get_by_text m) (sym (same_is bs q h)) ∙ e)
+-- each name after a change at the number of one
+pub changed : {S T : Type 0} (m : HashMap ℕ Opened S) (n : HashMap ℕ Opened T) (key : ℕ) (name : List ℕ) (w : Option Opened) → key ≡ packed name
+    → IsTrue (is_name name)
+    → ((k : ℕ) → get nat_eq n k ≡ cond (eqb key k) w (get nat_eq m k))
+    → (q : List ℕ) → found (get nat_eq n) q ≡ cond (same_name name q) w (found (get nat_eq m) q)
+changed m n key name w e ok h q =
+    let at : (k : ℕ) → get nat_eq n k ≡ cond (eqb (packed name) k) w (get nat_eq m k) =
+    λ k. h k ∙ ap (λ (x : ℕ). cond (eqb x k) w (get nat_eq m k)) e in
+    changed_at (get nat_eq m) (get nat_eq n) name w (same_name name q) ok at q refl
 
-pub inserted : (m n : BTreeMap (String Global) Opened) (key : String Global) (bs : List ℕ) (o : Opened) → string_bytes key ≡ bs → UpdatesBy string_cmp (string_cmp key) m n (Some o)
-    → (q : List ℕ) → get_by_text n q ≡ cond (same_name bs q) (Some o) (get_by_text m q)
-inserted m n key bs o e u q = btree_map_updates_text (string_bytes key) m n (Some o) u q ∙ ap (λ (x : List ℕ). cond (same_name x q) (Some o) (get_by_text m q)) e
+mapped : (f : ℕ → Option Opened) (name q : List ℕ) (t : Opened → Opened) (b : Bool) → IsTrue (is_name name) → same_name name q ≡ b
+    → cond b (option_map t (f (packed name))) (found f q) ≡ cond b (option_map t (found f q)) (found f q)
+mapped f name q t true ok e =
+    let is : found f name ≡ f (packed name) = rw ok refl in
+    ap (option_map t) (sym is ∙ ap (found f) (same_is name q e))
+mapped f name q t false ok e = refl
+
+-- what is kept of a name stands at its number
+pub found_at : {S : Type 0} (m : HashMap ℕ Opened S) (key : ℕ) (name : List ℕ) → key ≡ packed name → IsTrue (is_name name)
+    → get nat_eq m key ≡ found (get nat_eq m) name
+found_at m key name e ok =
+    let is : found (get nat_eq m) name ≡ get nat_eq m (packed name) = rw ok refl in
+    ap (get nat_eq m) e ∙ sym is
+
+-- each name after what is kept of one was changed by t
+pub changed_by : {S T : Type 0} (m : HashMap ℕ Opened S) (n : HashMap ℕ Opened T) (key : ℕ) (name : List ℕ) (t : Opened → Opened) → key ≡ packed name
+    → IsTrue (is_name name)
+    → ((k : ℕ) → get nat_eq n k ≡ cond (eqb key k) (option_map t (get nat_eq m key)) (get nat_eq m k))
+    → (q : List ℕ) → found (get nat_eq n) q ≡ cond (same_name name q) (option_map t (found (get nat_eq m) q)) (found (get nat_eq m) q)
+changed_by m n key name t e ok h q =
+    changed m n key name (option_map t (get nat_eq m key)) e ok h q
+    ∙ ap (λ (x : ℕ). cond (same_name name q) (option_map t (get nat_eq m x)) (found (get nat_eq m) q)) e
+    ∙ mapped (get nat_eq m) name q t (same_name name q) ok refl
+
+-- ---- a map of numbers after one entry was written through what `get_mut` lent, or where there was none to lend
+
+pub marked : {S T : Type 0} (m : HashMap ℕ Opened S) (n : HashMap ℕ Opened T) (key : ℕ) (t : Opened → Opened) (o : Opened) → get nat_eq m key ≡ Some o
+    → ((k : ℕ) → get nat_eq n k ≡ cond (eqb key k) (Some (t o)) (get nat_eq m k))
+    → (k : ℕ) → get nat_eq n k ≡ cond (eqb key k) (option_map t (get nat_eq m key)) (get nat_eq m k)
+marked m n key t o e h k = h k ∙ ap (λ (x : Option Opened). cond (eqb key k) (option_map t x) (get nat_eq m k)) (sym e)
+
+pub unmarked : {S : Type 0} (m : HashMap ℕ Opened S) (key : ℕ) (t : Opened → Opened) → get nat_eq m key ≡ None
+    → (k : ℕ) → get nat_eq m k ≡ cond (eqb key k) (option_map t (get nat_eq m key)) (get nat_eq m k)
+unmarked m key t e k = by (eqb key k) refl
+  where
+    by : (b : Bool) → eqb key k ≡ b → get nat_eq m k ≡ cond b (option_map t (get nat_eq m key)) (get nat_eq m k)
+    by true is = ap (get nat_eq m) (sym (eqb-true key k is)) ∙ e ∙ ap (option_map t) (sym e)
+    by false is = refl
+
+-- ---- the session of a name that is kept
+
+some_session : (x : Option Opened) (w : ℕ) (P : ℕ → Type 0) → Some w ≡ option_map (λ (o : Opened). o.session) x → P w → IfSome x (λ (o : Opened). P o.session)
+some_session None w P e p = tt
+some_session (Some o) w P e p = let same : w ≡ o.session = cc in subst P same p
+
+session_some : (x : Option Opened) (w : ℕ) (P : ℕ → Type 0) → Some w ≡ option_map (λ (o : Opened). o.session) x → IfSome x (λ (o : Opened). P o.session) → P w
+session_some None w P e p = absurd cc
+session_some (Some o) w P e p = let same : o.session ≡ w = cc in subst P same p
+
+no_session : (x : Option Opened) (P : Opened → Type 0) → None ≡ option_map (λ (o : Opened). o.session) x → IfSome x P
+no_session None P e = tt
+no_session (Some o) P e = absurd cc
+
+pub kept_session : {S : Type 0} (m : HashMap ℕ Opened S) (key : ℕ) (name : List ℕ) (w : ℕ) (P : ℕ → Type 0) → key ≡ packed name → IsTrue (is_name name)
+    → Some w ≡ option_map (λ (o : Opened). o.session) (get nat_eq m key) → P w → IfSome (found (get nat_eq m) name) (λ (o : Opened). P o.session)
+kept_session m key name w P e ok is p =
+    subst (λ (x : Option Opened). IfSome x (λ (o : Opened). P o.session)) (found_at m key name e ok) (some_session (get nat_eq m key) w P is p)
+
+pub session_kept : {S : Type 0} (m : HashMap ℕ Opened S) (key : ℕ) (name : List ℕ) (w : ℕ) (P : ℕ → Type 0) → key ≡ packed name → IsTrue (is_name name)
+    → Some w ≡ option_map (λ (o : Opened). o.session) (get nat_eq m key) → IfSome (found (get nat_eq m) name) (λ (o : Opened). P o.session) → P w
+session_kept m key name w P e ok is p =
+    session_some (get nat_eq m key) w P is (subst (λ (x : Option Opened). IfSome x (λ (o : Opened). P o.session)) (sym (found_at m key name e ok)) p)
+
+pub no_kept_session : {S : Type 0} (m : HashMap ℕ Opened S) (key : ℕ) (name : List ℕ) (P : Opened → Type 0) → key ≡ packed name → IsTrue (is_name name)
+    → None ≡ option_map (λ (o : Opened). o.session) (get nat_eq m key) → IfSome (found (get nat_eq m) name) P
+no_kept_session m key name P e ok is = subst (λ (x : Option Opened). IfSome x P) (found_at m key name e ok) (no_session (get nat_eq m key) P is)

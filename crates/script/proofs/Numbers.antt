@@ -1,5 +1,6 @@
 -- Texts of decimal digits, as `parse` reads them.
-use Rattle.std.proofs.Common.{◌≡◌, ℕ, ◌^◌, ◌<◌, ◌≤◌, Bool, true, false, not, ◌&&◌, eqb, leb, List, [], ◌∷◌, length, None, Result, Ok, Err, refl, arith, rules, inl, inr}
+use Rattle.std.proofs.Common.{◌≡◌, ℕ, ◌^◌, ◌<◌, ◌≤◌, Bool, true, false, not, ◌&&◌, eqb, leb, List, [], ◌∷◌, length, None, Result, Ok, Err, refl, arith}
+use Rattle.std.proofs.Common.{rules, inl, inr}
 use Rattle.std.specs.Char.{is_ascii_digit}
 use Rattle.std.specs.List.{list_all}
 use Rattle.std.specs.Str.{IsUtf8}
@@ -40,11 +41,13 @@ pub is_text : (text : List ℕ) → is_decimal text ≡ true → IsUtf8 text
 is_text text e = IsUtf8-from_ascii text (IsAscii-from_digits text (own.to text (all_digits text e).0))
 
 -- what `parse` gives is the number that the digits write
-pub value_is : {E : Type 0} (text : List ℕ) (r : Result ℕ E) (n : ℕ) → ParsesUnsigned 64 10 text r → is_decimal text ≡ true → r ≡ Ok n → n ≡ digits_value 10 text
+pub value_is : {E : Type 0} (text : List ℕ) (r : Result ℕ E) (n : ℕ) → ParsesUnsigned 64 10 text r → is_decimal text ≡ true → r ≡ Ok n
+    → n ≡ digits_value 10 text
 value_is text r n h e is = (OkIff-at_ok r _ (digits_value 10 text) n (parse_digits own 64 text r h (all_digits text e).0) is).1
 
 -- and where it fails, that number is past 64 bits, and so past each range
-pub too_large : {E : Type 0} (low high : ℕ) (text : List ℕ) (r : Result ℕ E) (x : E) → ParsesUnsigned 64 10 text r → is_decimal text ≡ true → r ≡ Err x → high < 2 ^ 64
+pub too_large : {E : Type 0} (low high : ℕ) (text : List ℕ) (r : Result ℕ E) (x : E) → ParsesUnsigned 64 10 text r → is_decimal text ≡ true → r ≡ Err x
+    → high < 2 ^ 64
     → None ≡ number_at low high text
 unfolding number_at
 too_large low high text r x h e is fits =

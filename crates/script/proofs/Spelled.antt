@@ -22,20 +22,27 @@ spaced-append fs gs = flat_map-append (λ (g : List ℕ). 32 ∷ g) fs gs
 -- one field more
 pub spaced_more : (out : List ℕ) (fs : List (List ℕ)) (f : List ℕ) → (out ++ spaced fs) ++ (32 ∷ f) ≡ out ++ spaced (fs ++ f ∷ [])
 spaced_more out fs f =
-    append_assoc out (spaced fs) (32 ∷ f) ∙ ap (λ (x : List ℕ). out ++ x) (ap (λ (x : List ℕ). spaced fs ++ x) (sym (spaced-cons f [] ∙ ap (λ (x : List ℕ). 32 ∷ x) (append-nil f))) ∙ sym (spaced-append fs (f ∷ [])))
+    append_assoc out (spaced fs) (32 ∷ f)
+    ∙ ap (λ (x : List ℕ). out ++ x) (ap (λ (x : List ℕ). spaced fs ++ x) (sym (spaced-cons f [] ∙ ap (λ (x : List ℕ). 32 ∷ x) (append-nil f)))
+    ∙ sym (spaced-append fs (f ∷ [])))
 
 -- what was written part by part is a line
 pub check_line : (out word name : List ℕ) (fs : List (List ℕ)) → ((out ++ word) ++ (32 ∷ name)) ++ (spaced fs ++ 10 ∷ []) ≡ out ++ line_of (word ∷ name ∷ fs)
 check_line out word name fs =
     let right : line_of (word ∷ name ∷ fs) ≡ word ++ (32 ∷ (name ++ (spaced fs ++ 10 ∷ []))) =
-    line_is word (name ∷ fs) ∙ ap (λ (x : List ℕ). word ++ (x ++ 10 ∷ [])) (spaced-cons name fs) ∙ ap (λ (x : List ℕ). word ++ (32 ∷ x)) (append_assoc name (spaced fs) (10 ∷ [])) in
-    append_assoc (out ++ word) (32 ∷ name) (spaced fs ++ 10 ∷ []) ∙ append_assoc out word (32 ∷ (name ++ (spaced fs ++ 10 ∷ []))) ∙ ap (λ (x : List ℕ). out ++ x) (sym right)
+    line_is word (name ∷ fs) ∙ ap (λ (x : List ℕ). word ++ (x ++ 10 ∷ [])) (spaced-cons name fs)
+    ∙ ap (λ (x : List ℕ). word ++ (32 ∷ x)) (append_assoc name (spaced fs) (10 ∷ [])) in
+    append_assoc (out ++ word) (32 ∷ name) (spaced fs ++ 10 ∷ []) ∙ append_assoc out word (32 ∷ (name ++ (spaced fs ++ 10 ∷ [])))
+    ∙ ap (λ (x : List ℕ). out ++ x) (sym right)
 
 regroup : (out word a b c d : List ℕ) → ((out ++ (word ++ a)) ++ b) ++ (c ++ d) ≡ out ++ (word ++ ((a ++ (b ++ c)) ++ d))
 regroup out word a b c d = simp append_assoc
 
-pub begin_line : (out word : List ℕ) (front ts fs : List (List ℕ)) → ((out ++ (word ++ spaced front)) ++ spaced ts) ++ (spaced fs ++ 10 ∷ []) ≡ out ++ line_of (word ∷ (front ++ (ts ++ fs)))
+pub begin_line : (out word : List ℕ) (front ts fs : List (List ℕ))
+    → ((out ++ (word ++ spaced front)) ++ spaced ts) ++ (spaced fs ++ 10 ∷ []) ≡ out ++ line_of (word ∷ (front ++ (ts ++ fs)))
 begin_line out word front ts fs =
-    let parts : spaced (front ++ (ts ++ fs)) ≡ spaced front ++ (spaced ts ++ spaced fs) = spaced-append front (ts ++ fs) ∙ ap (λ (x : List ℕ). spaced front ++ x) (spaced-append ts fs) in
-    let right : line_of (word ∷ (front ++ (ts ++ fs))) ≡ word ++ ((spaced front ++ (spaced ts ++ spaced fs)) ++ 10 ∷ []) = line_is word (front ++ (ts ++ fs)) ∙ ap (λ (x : List ℕ). word ++ (x ++ 10 ∷ [])) parts in
+    let parts : spaced (front ++ (ts ++ fs)) ≡ spaced front ++ (spaced ts ++ spaced fs) = spaced-append front (ts ++ fs)
+    ∙ ap (λ (x : List ℕ). spaced front ++ x) (spaced-append ts fs) in
+    let right : line_of (word ∷ (front ++ (ts ++ fs))) ≡ word ++ ((spaced front ++ (spaced ts ++ spaced fs)) ++ 10 ∷ []) = line_is word (front ++ (ts ++ fs))
+    ∙ ap (λ (x : List ℕ). word ++ (x ++ 10 ∷ [])) parts in
     regroup out word (spaced front) (spaced ts) (spaced fs) (10 ∷ []) ∙ ap (λ (x : List ℕ). out ++ x) (sym right)

@@ -1,5 +1,6 @@
 -- A line is the first of the parts that lines are, and there is always one more part.
-use Rattle.std.proofs.Common.{◌≡◌, ℕ, ◌+◌, ◌≤◌, eqb, ltb, Bor, codes, Bool, true, false, cond, List, [], ◌∷◌, ◌++◌, length, Option, Some, None, Result, Ok, Err, refl, sym, ap, subst, ◌∙◌}
+use Rattle.std.proofs.Common.{◌≡◌, ℕ, ◌+◌, ◌≤◌, eqb, ltb, Bor, codes, Bool, true, false, cond, List, [], ◌∷◌, ◌++◌, length, Option, Some, None, Result}
+use Rattle.std.proofs.Common.{Ok, Err, refl, sym, ap, subst, ◌∙◌}
 use Rattle.std.specs.List.{onto_first, before_first, after_first}
 use Rattle.std.specs.Option.{MatchOption}
 use Rattle.std.specs.Str.{bytes_eq}
@@ -42,7 +43,8 @@ pub no_step : (cs : List Command) (n : ℕ) (last : List ℕ) → commands_at cs
 unfolding commands_at
 no_step cs n last = refl
 
-pub first_step : (line after : List ℕ) → all_at (line ∷ lines after) ≡ cond (bytes_eq line (codes "latch script 1")) (commands_at [] 2 (lines after)) (Err (1, 2))
+pub first_step : (line after : List ℕ)
+    → all_at (line ∷ lines after) ≡ cond (bytes_eq line (codes "latch script 1")) (commands_at [] 2 (lines after)) (Err (1, 2))
 unfolding all_at
 first_step line after = let p = first_line after in rw p.2 refl
 
@@ -81,7 +83,8 @@ unfolding next_at
 next_fails faults.Memory cs line h = tt
 next_fails (faults.Bad cause) cs line h = rw h refl
 
-pub more_is : (cs : List Command) (line : List ℕ) (c : Command) → command_at (fields line) ≡ Ok c → more_at cs line ≡ ok_unless (rule_cause cs c) (cs ++ c ∷ [])
+pub more_is : (cs : List Command) (line : List ℕ) (c : Command) → command_at (fields line) ≡ Ok c
+    → more_at cs line ≡ ok_unless (rule_cause cs c) (cs ++ c ∷ [])
 unfolding next_at
 more_is cs line c h = rw h (one_more cs (rule_cause cs c) c)
 
@@ -90,7 +93,8 @@ Walked = Result (List Command) (ℕ × ℕ)
 
 -- the rest of a walk
 walk_on : (cs : List Command) (n : ℕ) (rest line after : List ℕ) (total : Walked) → lines rest ≡ line ∷ lines after → commands_at cs n (lines rest) ≡ total
-    → cond (bytes_eq line (codes "end")) (end_at cs n (lines after)) (at_line n (next_at cs line) >>= λ c. commands_at (cs ++ c ∷ []) (n + 1) (lines after)) ≡ total
+    → cond (bytes_eq line (codes "end")) (end_at cs n (lines after))
+    (at_line n (next_at cs line) >>= λ c. commands_at (cs ++ c ∷ []) (n + 1) (lines after)) ≡ total
 walk_on cs n rest line after total e so_far = sym (line_step cs n line after) ∙ sym (ap (commands_at cs n) e) ∙ so_far
 
 pub at_end : (cs : List Command) (n : ℕ) (rest line after : List ℕ) (total : Walked) → lines rest ≡ line ∷ lines after → commands_at cs n (lines rest) ≡ total
@@ -101,11 +105,13 @@ no_command : (cs : List Command) (r : Result Command ℕ) (cause : ℕ) → (r >
 no_command cs (Ok c) cause h = absurd cc
 no_command cs (Err d) cause h = cc
 
-one_command : (cs : List Command) (r : Result Command ℕ) (ds : List Command) → (r >>= λ c. Ok (cs ++ c ∷ [])) ≡ Ok ds → (c : Command) × (r ≡ Ok c) × (cs ++ c ∷ [] ≡ ds)
+one_command : (cs : List Command) (r : Result Command ℕ) (ds : List Command) → (r >>= λ c. Ok (cs ++ c ∷ [])) ≡ Ok ds
+    → (c : Command) × (r ≡ Ok c) × (cs ++ c ∷ [] ≡ ds)
 one_command cs (Ok c) ds h = (c, refl, ok_is {C = ℕ} (cs ++ c ∷ []) ds h)
 one_command cs (Err d) ds h = absurd cc
 
-pub at_fault : (f : FieldFault) (r : ReadScript) (cs : List Command) (n : ℕ) (rest line after : List ℕ) (total : Walked) → IsAtLine n f r → FieldFails f (more_at cs line)
+pub at_fault : (f : FieldFault) (r : ReadScript) (cs : List Command) (n : ℕ) (rest line after : List ℕ) (total : Walked) → IsAtLine n f r
+    → FieldFails f (more_at cs line)
     → lines rest ≡ line ∷ lines after → commands_at cs n (lines rest) ≡ total → bytes_eq line (codes "end") ≡ false → ScriptFails r total
 at_fault faults.Memory r cs n rest line after total is h e so_far last = subst (λ (x : ReadScript). ScriptFails x total) (sym is) tt
 at_fault (faults.Bad cause) r cs n rest line after total is h e so_far last =
@@ -114,13 +120,15 @@ at_fault (faults.Bad cause) r cs n rest line after total is h e so_far last =
     subst (λ (x : ReadScript). ScriptFails x total) (sym is) (sym (rw fails at w))
 
 pub goes_on : (cs ds : List Command) (n : ℕ) (rest line after : List ℕ) (total : Walked) → more_at cs line ≡ Ok ds
-    → lines rest ≡ line ∷ lines after → commands_at cs n (lines rest) ≡ total → bytes_eq line (codes "end") ≡ false → commands_at ds (n + 1) (lines after) ≡ total
+    → lines rest ≡ line ∷ lines after → commands_at cs n (lines rest) ≡ total → bytes_eq line (codes "end") ≡ false
+    → commands_at ds (n + 1) (lines after) ≡ total
 goes_on cs ds n rest line after total h e so_far last =
     let one = one_command cs (next_at cs line) ds h in
     let w = rw last at (walk_on cs n rest line after total e so_far) in
     ap (λ (x : List Command). commands_at x (n + 1) (lines after)) (sym one.2) ∙ rw one.1 at w
 
-pub no_line : (cs : List Command) (n : ℕ) (rest : List ℕ) (total : Walked) → lines rest ≡ rest ∷ [] → commands_at cs n (lines rest) ≡ total → total ≡ Err (n, 1)
+pub no_line : (cs : List Command) (n : ℕ) (rest : List ℕ) (total : Walked) → lines rest ≡ rest ∷ [] → commands_at cs n (lines rest) ≡ total
+    → total ≡ Err (n, 1)
 no_line cs n rest total e so_far = sym so_far ∙ ap (commands_at cs n) e ∙ no_step cs n rest
 
 -- ---- the first line
@@ -132,8 +140,10 @@ all_is b short = let fits : ltb TEXT_LIMIT (length b) ≡ false = le-ltb TEXT_LI
 pub none_first : (b : List ℕ) → length b ≤ TEXT_LIMIT → lines b ≡ b ∷ [] → script_at b ≡ Err (1, 1)
 none_first b short e = all_is b short ∙ ap all_at e ∙ first_none b
 
-pub other_first : (b line after : List ℕ) → length b ≤ TEXT_LIMIT → lines b ≡ line ∷ lines after → bytes_eq line (codes "latch script 1") ≡ false → script_at b ≡ Err (1, 2)
+pub other_first : (b line after : List ℕ) → length b ≤ TEXT_LIMIT → lines b ≡ line ∷ lines after → bytes_eq line (codes "latch script 1") ≡ false
+    → script_at b ≡ Err (1, 2)
 other_first b line after short e differs = all_is b short ∙ ap all_at e ∙ first_step line after ∙ rw differs refl
 
-pub is_first : (b line after : List ℕ) → length b ≤ TEXT_LIMIT → lines b ≡ line ∷ lines after → bytes_eq line (codes "latch script 1") ≡ true → script_at b ≡ commands_at [] 2 (lines after)
+pub is_first : (b line after : List ℕ) → length b ≤ TEXT_LIMIT → lines b ≡ line ∷ lines after → bytes_eq line (codes "latch script 1") ≡ true
+    → script_at b ≡ commands_at [] 2 (lines after)
 is_first b line after short e same = all_is b short ∙ ap all_at e ∙ first_step line after ∙ rw same refl

@@ -6,6 +6,8 @@ use Rattle.latch_model.specs.declared.latch.Mode.{Mode}
 use Rattle.latch_model.specs.declared.latch.Mode.TheVariants.{Acquire, Optimistic, Look}
 use Rattle.latch_model.specs.declared.latch.Policy.{Policy}
 use Rattle.latch_model.specs.declared.latch.Policy.TheVariants.{Wait as policy_wait, Error}
+use Rattle.script.specs.Causes.{number_of}
+use Rattle.script.specs.declared.fault.FaultCause.TheVariants.{BusySession, NoCheck, NoOpenName, UsedName}
 use Rattle.script.specs.Texts.{latch_text}
 use Rattle.script.specs.declared.command.Command.{Command}
 use Rattle.script.specs.declared.command.Command.TheVariants.{Begin, Wait, Check, Poison, Release, Metrics}
@@ -25,7 +27,8 @@ turns_fields (Some n) = (codes "turns=" ++ decimal n) ∷ []
 
 -- the fields of a command's line
 abbrev pub fields_of : Command → List (List ℕ)
-fields_of (Begin session name mode policy turns latches) = mode_text mode ∷ decimal session ∷ name ∷ policy_text policy ∷ (turns_fields turns ++ map latch_text latches)
+fields_of (Begin session name mode policy turns latches) = mode_text mode ∷ decimal session ∷ name ∷ policy_text
+    policy ∷ (turns_fields turns ++ map latch_text latches)
 fields_of (Wait name) = codes "wait" ∷ name ∷ []
 fields_of (Check name latches) = codes "check" ∷ name ∷ map latch_text latches
 fields_of (Poison name) = codes "poison" ∷ name ∷ []
@@ -111,12 +114,13 @@ is_checkable cs n = list_any (opens_optimistic n) cs && not (list_any (waits_for
 -- The cause for which a command may not follow the commands cs: 12, its session has a live name; 13, its name is used; 14, its name
 -- isn't live; 15, its name can't be checked.
 abbrev pub live_cause : List Command → List ℕ → Option ℕ
-live_cause cs n = if is_live cs n then None else Some 14
+live_cause cs n = if is_live cs n then None else Some (number_of NoOpenName)
 
 abbrev pub rule_cause : List Command → Command → Option ℕ
-rule_cause cs (Begin session name mode policy turns latches) = if is_busy cs session then Some 12 else (if is_used cs name then Some 13 else None)
+rule_cause cs (Begin session name mode policy turns latches) = if is_busy cs session then Some
+    (number_of BusySession) else (if is_used cs name then Some (number_of UsedName) else None)
 rule_cause cs (Wait name) = live_cause cs name
-rule_cause cs (Check name latches) = if is_live cs name then (if is_checkable cs name then None else Some 15) else Some 14
+rule_cause cs (Check name latches) = if is_live cs name then (if is_checkable cs name then None else Some (number_of NoCheck)) else Some (number_of NoOpenName)
 rule_cause cs (Poison name) = live_cause cs name
 rule_cause cs (Release name) = live_cause cs name
 rule_cause cs Metrics = None

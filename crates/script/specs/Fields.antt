@@ -1,5 +1,6 @@
 -- What a field of a line spells: a number, a name, a policy, or a latch, which has the causes 8, 9 and 10.
-use Rattle.std.specs.Prelude.{ℕ, Bool, false, not, ◌&&◌, ◌||◌, ◌==◌, nat_eq, nat_le, nat_lt, if◌then◌else◌, List, [], ◌∷◌, length, drop, Option, Some, None, Result, Ok, Err, codes}
+use Rattle.std.specs.Prelude.{ℕ, Bool, false, not, ◌&&◌, ◌||◌, ◌==◌, nat_eq, nat_le, nat_lt, if◌then◌else◌, List, [], ◌∷◌, length, drop, Option, Some}
+use Rattle.std.specs.Prelude.{None, Result, Ok, Err, codes}
 use Rattle.std.specs.Char.{is_ascii_digit}
 use Rattle.std.specs.List.{list_any, list_all, before_first, after_first, starts_with}
 use Rattle.std.specs.Result.{result_ok}
@@ -13,6 +14,8 @@ use Rattle.latch_model.specs.declared.latch.Access.TheVariants.{Read, Write}
 use Rattle.latch_model.specs.declared.latch.Latch.{Latch}
 use Rattle.latch_model.specs.declared.latch.Policy.{Policy}
 use Rattle.latch_model.specs.declared.latch.Policy.TheVariants.{Wait as policy_wait, Error}
+use Rattle.script.specs.Causes.{number_of}
+use Rattle.script.specs.declared.fault.FaultCause.TheVariants.{LongKey, NoLatch, Reversed}
 use Rattle.script.specs.Scripts.{is_name}
 use Rattle.script.specs.declared.limits.TheConstants.{KEY_LIMIT}
 
@@ -58,11 +61,11 @@ unfoldable pub policy_at : List ℕ → Option Policy
 policy_at text = if bytes_eq text (codes "wait") then Some policy_wait else (if bytes_eq text (codes "error") then Some Error else None)
 
 -- whether a text begins with these bytes, and what stands behind them
-abbrev pub begins : List ℕ → List ℕ → Bool
-begins front text = starts_with nat_eq text front
+abbrev pub begins_with : List ℕ → List ℕ → Bool
+begins_with start text = starts_with nat_eq text start
 
 abbrev pub behind : List ℕ → List ℕ → List ℕ
-behind front text = drop (length front) text
+behind start text = drop (length start) text
 
 -- a hexadecimal digit; capital letters are none
 abbrev pub is_hex : ℕ → Bool
@@ -84,19 +87,20 @@ span_at text =
 unfoldable pub stamp_at : List ℕ → Option Stamp
 stamp_at text =
     if has_byte 46 text
-    then (number_at 0 18446744073709551615 (before_first (is_byte 46) text) >>? λ wall. number_at 1 4294967295 (after_first (is_byte 46) text) >>? λ logical. Some (record { wall = wall; logical = logical }))
+    then (number_at 0 18446744073709551615 (before_first (is_byte 46) text) >>? λ wall. number_at 1 4294967295
+    (after_first (is_byte 46) text) >>? λ logical. Some (record { wall = wall; logical = logical }))
     else (number_at 1 18446744073709551615 text >>? λ wall. Some (record { wall = wall; logical = 0 }))
 
 -- a span, and a stamp where there is an `@`
-unfoldable pub place_at : List ℕ → Option (Pair × Stamp)
-place_at text =
+unfoldable pub timed_at : List ℕ → Option (Pair × Stamp)
+timed_at text =
     if has_byte 64 text
     then (span_at (before_first (is_byte 64) text) >>? λ span. stamp_at (after_first (is_byte 64) text) >>? λ stamp. Some (span, stamp))
     else (span_at text >>? λ span. Some (span, record { wall = 0; logical = 0 }))
 
 -- The access of a latch field. Two bytes spell it.
 unfoldable pub access_at : List ℕ → Option Access
-access_at text = if begins (codes "r:") text then Some Read else (if begins (codes "w:") text then Some Write else None)
+access_at text = if begins_with (codes "r:") text then Some Read else (if begins_with (codes "w:") text then Some Write else None)
 
 -- whether the key or the end is too long for a script
 abbrev pub is_long : Pair → Bool
@@ -108,10 +112,11 @@ is_reversed span = not (length span.1 == 0) && not (key_lt span.0 span.1)
 
 -- The span of a key and an end: 9, one of them is too long; 10, the end is not greater than the key.
 unfoldable pub bounded_at : Pair → Result Pair ℕ
-bounded_at span = if is_long span then Err 9 else (if is_reversed span then Err 10 else Ok span)
+bounded_at span = if is_long span then Err (number_of LongKey) else (if is_reversed span then Err (number_of Reversed) else Ok span)
 
 -- The latch that a field spells, or its first cause: 8, it isn't spelled as a latch, where keys may have any length; then 9 and 10.
 unfoldable pub latch_at : List ℕ → Result Latch ℕ
 latch_at text =
-    or_cause 8 (access_at text) >>= λ access. or_cause 8 (place_at (drop 2 text)) >>= λ place. bounded_at place.0 >>= λ span.
+    or_cause (number_of NoLatch) (access_at text) >>= λ access. or_cause (number_of NoLatch)
+    (timed_at (drop 2 text)) >>= λ place. bounded_at place.0 >>= λ span.
     Ok (record { access = access; span = span; stamp = place.1 })

@@ -1,19 +1,26 @@
 -- What is kept while a script is read: of each name how it was opened and what has been done with it since, and of each session
 -- whether it has a live name.
-use Rattle.std.specs.Prelude.{◌≡◌, ℕ, Bool, true, false, not, ◌&&◌, ◌==◌, List, length, Option, Some, None, slice_index_or}
-use Rattle.std.specs.BTreeMap.{get_by_text}
+use Rattle.std.specs.Prelude.{◌≡◌, ℕ, Bool, true, false, not, ◌&&◌, ◌==◌, ◌+◌, ◌*◌, nat_eq, if◌then◌else◌, List, [], ◌∷◌, length, Option, Some, None}
+use Rattle.std.specs.Prelude.{slice_index_or}
+use Rattle.std.specs.HashMap.{get}
 use Rattle.std.specs.List.{list_any}
 use Rattle.latch_model.specs.declared.latch.Mode.{Mode}
 use Rattle.latch_model.specs.declared.latch.Mode.TheVariants.{Acquire, Optimistic, Look}
 pub use Rattle.script.specs.Commands.{opens_for}
 use Rattle.script.specs.Commands.{opens, opens_optimistic, waits_for, releases}
+use Rattle.script.specs.Scripts.{is_name}
 use Rattle.script.specs.declared.command.Command.{Command}
 use Rattle.script.specs.declared.draft.Draft.{Draft}
 use Rattle.script.specs.declared.draft.Opened.{Opened}
 
+-- A name as a number: its bytes are the digits to the base 256, the lowest first.
+abbrev pub packed : List ℕ → ℕ
+packed [] = 0
+packed (b ∷ bs) = b + 256 * packed bs
+
 -- what is kept of a name
 abbrev pub find : Draft → List ℕ → Option Opened
-find d name = get_by_text d.opened name
+find d name = if is_name name then get nat_eq d.opened (packed name) else None
 
 abbrev pub used_in : Option Opened → Bool
 used_in None = false
@@ -67,10 +74,10 @@ pub record Sessions (kept : List ℕ → Option Opened) (busy : List Bool) : Typ
   pub each : (s : ℕ) (q : List ℕ) → open_in s (kept q) ≡ true → slice_index_or busy s false ≡ true
   pub one : (s : ℕ) (q r : List ℕ) → open_in s (kept q) ≡ true → open_in s (kept r) ≡ true → q ≡ r
 
-pub record Follows (d : Draft) (cs : List Command) : Type 0 where
+pub record KnowsNames (d : Draft) (cs : List Command) : Type 0 where
   pub tracks : Tracks (find d) cs
   pub sessions : Sessions (find d) d.busy
 
 -- what a draft keeps is what its commands say
 abbrev pub Keeps : Draft → Type 0
-Keeps d = Follows d d.commands.items
+Keeps d = KnowsNames d d.commands.items

@@ -1,5 +1,6 @@
 -- Scripts: which commands make one, and which bytes spell it.
-use Rattle.std.specs.Prelude.{◌≡◌, ◌≢◌, ℕ, ◌<◌, ◌≤◌, ◌^◌, ◌++◌, Bool, false, ◌&&◌, ◌||◌, nat_le, IsTrue, List, [], ◌∷◌, length, take, slice_get, Option, Some, None, IfSome, codes}
+use Rattle.std.specs.Prelude.{◌≡◌, ◌≢◌, ℕ, ◌<◌, ◌≤◌, ◌^◌, ◌++◌, Bool, false, ◌&&◌, ◌||◌, nat_le, IsTrue, List, [], ◌∷◌, length, take, slice_get, Option}
+use Rattle.std.specs.Prelude.{Some, None, IfSome, codes}
 use Rattle.std.specs.List.{All, list_all, flat_map}
 use Rattle.span_key.specs.Spans.{IsSpan}
 use Rattle.latch_model.specs.declared.latch.Latch.{Latch}

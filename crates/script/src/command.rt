@@ -1,5 +1,7 @@
 // Commands and scripts.
 ghost use Rattle.std.specs.Prelude.{◌≡◌, ◌↔◌, ◌≤◌, IsTrue, IfSome, IfNone, IfOk, IfErr, length};
+ghost use Rattle.script.specs.Names as names;
+ghost use Rattle.script.specs.Scripts.{is_name};
 ghost use Rattle.script.specs.declared.fault.FieldFault.TheVariants.{Memory};
 
 use crate::fault::FieldFault;
@@ -29,6 +31,7 @@ impl Model for Name {
 }
 
 impl Name {
+    ghost use Rattle.script.specs.Names.{packed};
     ghost use Rattle.script.specs.Scripts.{is_name};
 
     // The name with these bytes.
@@ -54,11 +57,34 @@ impl Name {
         self.text.as_bytes()
     }
 
+    /// The name as a number, which no other name has.
+    #[inline]
+    pub(crate) fn packed(&self) -> u128
+        ensures number { result ≡ packed self.now }
+        ensures spelled { IsTrue (is_name self.now) }
+    {
+        packed(self.text.as_bytes())
+    }
+
     pub fn as_str(&self) -> &str
         ensures { result.now ≡ self.now }
     {
         self.text.as_str()
     }
+}
+
+// Bytes as a number, of which the first one is the lowest.
+fn packed(bytes: &[u8]) -> u128
+    requires { IsTrue (is_name bytes.now) }
+    ensures { result ≡ names.packed bytes.now }
+{
+    let mut number = 0u128;
+    let mut left = bytes.len();
+    while left > 0 {
+        left -= 1;
+        number = number * 256 + u128::from(bytes[left]);
+    }
+    number
 }
 
 /// One command of a script.

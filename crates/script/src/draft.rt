@@ -1,19 +1,22 @@
 // The commands of a script that have been read so far, with what the rules over names and sessions ask of them.
-ghost use Rattle.std.specs.Prelude.{◌≡◌, ◌≤◌, ◌<◌, [], ◌∷◌, ◌++◌, IfOk, IfErr, IfSome, List, OnOk, Some, None, false, if◌then◌else◌, option_map, slice_set, true, ℕ};
-ghost use Rattle.std.specs.BTreeMap.{get_by_text};
+ghost use Rattle.std.specs.Prelude.{◌≡◌, ◌≤◌, ◌<◌, ◌==◌, nat_eq, [], ◌∷◌, ◌++◌, IfOk, IfErr, IfSome, List, OnOk, Some, None, false, if◌then◌else◌};
+ghost use Rattle.std.specs.Prelude.{option_map, slice_set, true, ℕ};
+ghost use Rattle.std.specs.HashMap.{get};
 ghost use Rattle.std.specs.List.{list_any};
 ghost use Rattle.script.specs.Commands.{is_busy, is_checkable, is_live, is_used, live_cause, rule_cause, same_name, some_live};
-ghost use Rattle.script.specs.Names.{Follows, Keeps, ended, find, is_optimistic, waits};
+ghost use Rattle.script.specs.Names.{KnowsNames, Keeps, ended, find, is_optimistic, waits};
 ghost use Rattle.script.specs.declared.fault.FieldFault.TheVariants.{Memory};
+ghost use Rattle.script.specs.Causes.{number_of};
 ghost use Rattle.script.specs.Reading.{ok_unless};
+ghost use Rattle.script.specs.declared.fault.FaultCause.TheVariants.{BusySession, NoCheck, NoOpenName, UsedName};
 ghost use Rattle.script.specs.Outcomes.{Gives};
 ghost use Rattle.script.specs.Scripts.{IsCommand};
 
 use crate::command::{Command, Name};
-use crate::fault::FieldFault;
+use crate::fault::{FaultCause, FieldFault};
 use latch_model::latch::Mode;
 use std::alloc::Global;
-use std::collections::BTreeMap;
+use std::collections::HashMap;
 
 // A name that was opened: for which session, whether by `optimistic`, and whether it has had a `wait` or been released since.
 #[derive(Clone, Copy, Debug)]
@@ -28,7 +31,7 @@ struct Opened {
 #[derive(Drop)]
 pub(crate) struct Draft {
     commands: Vec<Command>,
-    opened: BTreeMap<String, Opened>,
+    opened: HashMap<u128, Opened>,
     busy: [bool; 65],
 }
 
@@ -39,24 +42,25 @@ impl Draft {
     {
         Draft {
             commands: Vec::new(alloc),
-            opened: BTreeMap::new(alloc),
+            opened: HashMap::new(alloc),
             busy: [false; 65],
         }
     }
 
-    /// These commands and one more, or the cause for which it may not follow them.
-    pub(crate) fn with(mut self, alloc: Global, command: Command) -> Result<Draft, FieldFault>
-        requires kept { Keeps self }
+    /// One more command, or the cause for which it may not follow the others.
+    pub(crate) fn add(&mut self, command: Command) -> Result<(), FieldFault>
+        requires kept { Keeps self.old }
         requires fits { IsCommand command }
-        ensures commands { Gives (λ d. d.commands.items) result (ok_unless (rule_cause self.commands.items command) (self.commands.items ++ command ∷ [])) }
-        ensures kept { IfOk result Keeps }
+        ensures commands { Gives (λ _. self.new.commands.items) result
+            (ok_unless (rule_cause self.old.commands.items command) (self.old.commands.items ++ command ∷ [])) }
+        ensures kept { OnOk result (Keeps self.new) }
     {
         if let Some(cause) = self.cause(&command) {
             return Err(FieldFault::Bad { cause });
         }
-        self.note(alloc, &command)?;
+        self.note(&command)?;
         self.commands.push(command)?;
-        Ok(self)
+        Ok(())
     }
 
     pub(crate) fn into_commands(self) -> Vec<Command>
@@ -82,7 +86,7 @@ impl Draft {
     fn known(&self, name: &Name) -> Option<Opened>
         ensures { result ≡ find self.now name.now }
     {
-        self.opened.get(name.as_str()).copied()
+        self.opened.get(&name.packed()).copied()
     }
 
     // The cause for which a command may not follow.
@@ -104,12 +108,13 @@ impl Draft {
     fn opening_cause(&self, session: u32, name: &Name) -> Option<u32>
         requires kept { Keeps self.now }
         requires low { session ≤ 64 }
-        ensures { result ≡ (if is_busy self.now.commands.items session then Some 12 else (if is_used self.now.commands.items name.now then Some 13 else None)) }
+        ensures { result ≡ (if is_busy self.now.commands.items session then Some (number_of BusySession)
+            else (if is_used self.now.commands.items name.now then Some (number_of UsedName) else None)) }
     {
         if self.busy[session as usize] {
-            Some(12)
+            Some(FaultCause::BusySession.number())
         } else if self.known(name).is_some() {
-            Some(13)
+            Some(FaultCause::UsedName.number())
         } else {
             None
         }
@@ -121,33 +126,34 @@ impl Draft {
     {
         match self.known(name) {
             Some(opened) if !opened.released => None,
-            _ => Some(14),
+            _ => Some(FaultCause::NoOpenName.number()),
         }
     }
 
     fn check_cause(&self, name: &Name) -> Option<u32>
         requires { Keeps self.now }
-        ensures { result ≡ (if is_live self.now.commands.items name.now then (if is_checkable self.now.commands.items name.now then None else Some 15) else Some 14) }
+        ensures { result ≡ (if is_live self.now.commands.items name.now then
+            (if is_checkable self.now.commands.items name.now then None else Some (number_of NoCheck)) else Some (number_of NoOpenName)) }
     {
         match self.known(name) {
             Some(opened) if !opened.released => {
                 if opened.optimistic && !opened.waited {
                     None
                 } else {
-                    Some(15)
+                    Some(FaultCause::NoCheck.number())
                 }
             }
-            _ => Some(14),
+            _ => Some(FaultCause::NoOpenName.number()),
         }
     }
 
     // What a command changes, but for the list of commands.
-    fn note(&mut self, alloc: Global, command: &Command) -> Result<(), FieldFault>
+    fn note(&mut self, command: &Command) -> Result<(), FieldFault>
         requires kept { Keeps self.old }
         requires fits { IsCommand command.now }
         requires allowed { rule_cause self.old.commands.items command.now ≡ None }
         ensures same { self.new.commands ≡ self.old.commands }
-        ensures follows { OnOk result (Follows self.new (self.old.commands.items ++ command.now ∷ [])) }
+        ensures follows { OnOk result (KnowsNames self.new (self.old.commands.items ++ command.now ∷ [])) }
         ensures refused { IfErr result (λ e. e ≡ Memory) }
     {
         match command {
@@ -156,7 +162,7 @@ impl Draft {
                 name,
                 mode,
                 ..
-            } => self.open(alloc, name, Opened::fresh(*session, *mode)),
+            } => self.open(name, Opened::fresh(*session, *mode)),
             Command::Wait { name } => {
                 self.wait(name);
                 Ok(())
@@ -172,15 +178,14 @@ impl Draft {
     }
 
     // A name is opened, and its session is busy.
-    fn open(&mut self, alloc: Global, name: &Name, opened: Opened) -> Result<(), FieldFault>
+    fn open(&mut self, name: &Name, opened: Opened) -> Result<(), FieldFault>
         requires { opened.session ≤ 64 }
         ensures same { self.new.commands ≡ self.old.commands }
         ensures opened { OnOk result ((q : List ℕ) → find self.new q ≡ (if same_name name.now q then Some opened else find self.old q)) }
         ensures busy { OnOk result (self.new.busy ≡ slice_set self.old.busy opened.session true) }
         ensures refused { IfErr result (λ e. e ≡ Memory) }
     {
-        let text = String::from_str(alloc, name.as_str())?;
-        self.opened.insert(text, opened)?;
+        self.opened.insert(name.packed(), opened)?;
         self.busy[opened.session as usize] = true;
         Ok(())
     }
@@ -191,7 +196,7 @@ impl Draft {
         ensures opened { (q : List ℕ) → find self.new q ≡ (if same_name name.now q then option_map waits (find self.old q) else find self.old q) }
         ensures busy { self.new.busy ≡ self.old.busy }
     {
-        mark_waited(&mut self.opened, name.as_str());
+        mark_waited(&mut self.opened, name.packed());
     }
 
     // A name is released, and its session isn't busy any more.
@@ -201,7 +206,7 @@ impl Draft {
         ensures opened { (q : List ℕ) → find self.new q ≡ (if same_name name.now q then option_map ended (find self.old q) else find self.old q) }
         ensures busy { IfSome (find self.old name.now) (λ o. self.new.busy ≡ slice_set self.old.busy o.session false) }
     {
-        if let Some(session) = mark_released(&mut self.opened, name.as_str()) {
+        if let Some(session) = mark_released(&mut self.opened, name.packed()) {
             self.busy[session as usize] = false;
         }
     }
@@ -224,20 +229,20 @@ impl Opened {
     }
 }
 
-fn mark_waited(opened: &mut BTreeMap<String, Opened>, name: &str)
-    ensures { (q : List ℕ) → get_by_text opened.new q ≡ (if same_name name.now q then option_map waits (get_by_text opened.old q) else get_by_text opened.old q) }
+fn mark_waited(opened: &mut HashMap<u128, Opened>, name: u128)
+    ensures { (k : ℕ) → get nat_eq opened.new k ≡ (if name == k then option_map waits (get nat_eq opened.old name) else get nat_eq opened.old k) }
 {
-    if let Some(known) = opened.get_mut(name) {
+    if let Some(known) = opened.get_mut(&name) {
         known.waited = true;
     }
 }
 
 // Answers the name's session.
-fn mark_released(opened: &mut BTreeMap<String, Opened>, name: &str) -> Option<u32>
-    ensures opened { (q : List ℕ) → get_by_text opened.new q ≡ (if same_name name.now q then option_map ended (get_by_text opened.old q) else get_by_text opened.old q) }
-    ensures session { result ≡ option_map (λ o. o.session) (get_by_text opened.old name.now) }
+fn mark_released(opened: &mut HashMap<u128, Opened>, name: u128) -> Option<u32>
+    ensures opened { (k : ℕ) → get nat_eq opened.new k ≡ (if name == k then option_map ended (get nat_eq opened.old name) else get nat_eq opened.old k) }
+    ensures session { result ≡ option_map (λ o. o.session) (get nat_eq opened.old name) }
 {
-    match opened.get_mut(name) {
+    match opened.get_mut(&name) {
         None => None,
         Some(known) => {
             known.released = true;

@@ -3,17 +3,19 @@ ghost use Rattle.std.specs.Prelude.{◌≡◌, ◌≤◌, true, false, drop, len
 ghost use Rattle.std.specs.Char.{is_ascii_digit};
 ghost use Rattle.std.specs.Str.{bytes_eq};
 ghost use Rattle.std.specs.List.{before_first, after_first, list_all, position};
-ghost use Rattle.script.specs.Fields.{access_at, bounded_at, bytes_at, has_byte, is_byte, latch_at, name_at, number_at, or_cause, place_at, policy_at, span_at, stamp_at};
+ghost use Rattle.script.specs.Fields.{access_at, bounded_at, bytes_at, has_byte, is_byte, latch_at, name_at, number_at, or_cause, timed_at, policy_at};
+ghost use Rattle.script.specs.Fields.{span_at, stamp_at};
 ghost use Rattle.script.specs.Fields as spec;
 ghost use Rattle.script.specs.Scripts as scripts;
 ghost use Rattle.script.specs.Scripts.{IsScriptLatch};
 ghost use Rattle.script.specs.Texts.{latch_text};
 ghost use Rattle.latch_model.specs.declared.latch.Latch.{Latch as AnyLatch};
 ghost use Rattle.script.specs.declared.fault.FieldFault.TheVariants.{Memory};
+ghost use Rattle.script.specs.Causes.{number_of};
 ghost use Rattle.script.specs.Outcomes.{Gives};
 
 use crate::command::Name;
-use crate::fault::FieldFault;
+use crate::fault::{FaultCause, FieldFault};
 use crate::limits::KEY_LIMIT;
 use hex::FromHexError;
 use hlc_stamp::Stamp;
@@ -30,7 +32,8 @@ pub(crate) fn is_word(text: &[u8], word: &[u8]) -> bool
 
 /// What stands before the first byte `c` of a text, and what stands behind it.
 pub(crate) fn cut(text: &[u8], c: u8) -> Option<(&[u8], &[u8])>
-    ensures { MatchOption result (has_byte c text.now ≡ false) (λ x. (has_byte c text.now ≡ true) × (x.0.now ≡ before_first (is_byte c) text.now) × (x.1.now ≡ after_first (is_byte c) text.now)) }
+    ensures { MatchOption result (has_byte c text.now ≡ false)
+        (λ x. (has_byte c text.now ≡ true) × (x.0.now ≡ before_first (is_byte c) text.now) × (x.1.now ≡ after_first (is_byte c) text.now)) }
 {
     match index_of(text, c) {
         None => None,
@@ -99,10 +102,10 @@ fn all_name_bytes(text: &[u8]) -> bool
 /// The name that a field spells.
 #[tactic(auto, unfolding(crate::specs::Fields::name_at))]
 pub(crate) fn name(alloc: Global, text: &[u8]) -> Result<Name, FieldFault>
-    ensures { Gives (λ n. n) result (or_cause 5 (name_at text.now)) }
+    ensures { Gives (λ n. n) result (or_cause (number_of FaultCause.NoName) (name_at text.now)) }
 {
     if !is_name(text) {
-        return Err(FieldFault::Bad { cause: 5 });
+        return Err(FaultCause::NoName.fault());
     }
     Name::new(alloc, text)
 }
@@ -131,15 +134,15 @@ fn is_hex(text: &[u8]) -> bool
 // The bytes, one or more, that a text spells in hexadecimal.
 #[tactic(auto, unfolding(crate::specs::Fields::bytes_at))]
 fn bytes_of(alloc: Global, text: &[u8]) -> Result<Vec<u8>, FieldFault>
-    ensures { Gives (λ v. v.items) result (or_cause 8 (bytes_at text.now)) }
+    ensures { Gives (λ v. v.items) result (or_cause (number_of FaultCause.NoLatch) (bytes_at text.now)) }
 {
     if text.is_empty() || !is_hex(text) {
-        return Err(FieldFault::Bad { cause: 8 });
+        return Err(FaultCause::NoLatch.fault());
     }
     match hex::decode(alloc, text) {
         Ok(bytes) => Ok(bytes),
         Err(FromHexError::OutOfMemory) => Err(FieldFault::Memory),
-        Err(_) => Err(FieldFault::Bad { cause: 8 }),
+        Err(_) => Err(FaultCause::NoLatch.fault()),
     }
 }
 
@@ -153,7 +156,7 @@ struct Bounds {
 // A key, or a key and its end.
 #[tactic(auto, unfolding(crate::specs::Fields::span_at))]
 fn bounds_of(alloc: Global, text: &[u8]) -> Result<Bounds, FieldFault>
-    ensures { Gives (λ p. (p.key.items, p.end.items)) result (or_cause 8 (span_at text.now)) }
+    ensures { Gives (λ p. (p.key.items, p.end.items)) result (or_cause (number_of FaultCause.NoLatch) (span_at text.now)) }
 {
     match cut(text, b'-') {
         None => Ok(Bounds {
@@ -184,10 +187,10 @@ fn stamp_of(text: &[u8]) -> Option<Stamp>
     }
 }
 
-// A place at a time: a span of bytes whose lengths and order aren't tested yet, and a stamp.
-#[tactic(auto, unfolding(crate::specs::Fields::place_at))]
-fn place_of(alloc: Global, text: &[u8]) -> Result<(Bounds, Stamp), FieldFault>
-    ensures { Gives (λ x. ((x.0.key.items, x.0.end.items), x.1)) result (or_cause 8 (place_at text.now)) }
+// A span and a stamp: a span of bytes whose lengths and order aren't tested yet, and a stamp.
+#[tactic(auto, unfolding(crate::specs::Fields::timed_at))]
+fn timed_span(alloc: Global, text: &[u8]) -> Result<(Bounds, Stamp), FieldFault>
+    ensures { Gives (λ x. ((x.0.key.items, x.0.end.items), x.1)) result (or_cause (number_of FaultCause.NoLatch) (timed_at text.now)) }
 {
     match cut(text, b'@') {
         None => Ok((
@@ -200,7 +203,7 @@ fn place_of(alloc: Global, text: &[u8]) -> Result<(Bounds, Stamp), FieldFault>
         Some((text, time)) => {
             let bounds = bounds_of(alloc, text)?;
             match stamp_of(time) {
-                None => Err(FieldFault::Bad { cause: 8 }),
+                None => Err(FaultCause::NoLatch.fault()),
                 Some(stamp) => Ok((bounds, stamp)),
             }
         }
@@ -227,7 +230,7 @@ fn bounded(alloc: Global, bounds: Bounds) -> Result<Span, FieldFault>
     ensures { Gives (λ s. s) result (bounded_at (bounds.key.items, bounds.end.items)) }
 {
     if bounds.key.len() > KEY_LIMIT || bounds.end.len() > KEY_LIMIT {
-        return Err(FieldFault::Bad { cause: 9 });
+        return Err(FaultCause::LongKey.fault());
     }
     let key = key_of(alloc, &bounds.key)?;
     if bounds.end.is_empty() {
@@ -235,7 +238,7 @@ fn bounded(alloc: Global, bounds: Bounds) -> Result<Span, FieldFault>
     }
     match Span::range(key, key_of(alloc, &bounds.end)?) {
         Ok(span) => Ok(span),
-        Err(_) => Err(FieldFault::Bad { cause: 10 }),
+        Err(_) => Err(FaultCause::Reversed.fault()),
     }
 }
 
@@ -268,9 +271,9 @@ pub(crate) fn latch(alloc: Global, field: &[u8]) -> Result<Latch, FieldFault>
     ensures { Gives (λ l. l) result (latch_at field.now) }
 {
     let Some((access, rest)) = access_of(field) else {
-        return Err(FieldFault::Bad { cause: 8 });
+        return Err(FaultCause::NoLatch.fault());
     };
-    let (bounds, stamp) = place_of(alloc, rest)?;
+    let (bounds, stamp) = timed_span(alloc, rest)?;
     Ok(Latch {
         access,
         span: bounded(alloc, bounds)?,

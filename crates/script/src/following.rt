@@ -1,6 +1,7 @@
 // Worked examples of the definition of following a script. Functions without a body's work, so that a contract states them.
 ghost use Rattle.script.specs.Conflicting.{checked_first, checked_second, checking, one_by_one, one_session, two_blocks, two_sessions, waiting_behind};
-ghost use Rattle.script.specs.Conflicting.{with_another_line, with_session_three, with_sessions_exchanged, without_an_end, without_latches, without_session_two, written};
+ghost use Rattle.script.specs.Conflicting.{with_another_line, with_session_three, with_sessions_exchanged, without_an_end, without_latches};
+ghost use Rattle.script.specs.Conflicting.{without_session_two, written};
 ghost use Rattle.script.specs.Follows.{FollowsScript};
 ghost use Rattle.latch_model.specs.declared.history.Grant.TheVariants.{Never, Checked};
 

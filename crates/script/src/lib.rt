@@ -13,6 +13,8 @@ mod read;
 pub mod spelling;
 mod text;
 
+pub use command::{Command, Name, Script};
+pub use fault::{FaultCause, FieldFault, ReadScript, ScriptFault};
 pub use field::read_latch;
 pub use latch_text::{
     push_after, push_bounds, push_latch, push_number, push_span, push_whole_stamp,

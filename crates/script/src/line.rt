@@ -5,7 +5,7 @@ ghost use Rattle.script.specs.Lines as spec;
 ghost use Rattle.script.specs.Outcomes.{Gives};
 
 use crate::command::{Command, Name};
-use crate::fault::FieldFault;
+use crate::fault::{FaultCause, FieldFault};
 use crate::field::{cut, is_word, latch, name, number, policy};
 use crate::limits::{SESSION_LIMIT, TURN_LIMIT};
 use latch_model::latch::{Latch, Latches, Mode};
@@ -67,7 +67,7 @@ fn few(alloc: Global, fields: Fields<'_>) -> Result<Latches, FieldFault>
 {
     match Latches::new(latches(alloc, fields)?) {
         Ok(latches) => Ok(latches),
-        Err(_) => Err(FieldFault::Bad { cause: 11 }),
+        Err(_) => Err(FaultCause::ManyLatches.fault()),
     }
 }
 
@@ -82,7 +82,7 @@ fn rest(alloc: Global, fields: Fields<'_>) -> Result<(Option<u32>, Latches), Fie
     match field.strip_prefix(b"turns=") {
         None => Ok((None, few(alloc, fields)?)),
         Some(text) => match number(1, u64::from(TURN_LIMIT), text) {
-            None => Err(FieldFault::Bad { cause: 7 }),
+            None => Err(FaultCause::NoTurns.fault()),
             Some(turns) => Ok((Some(turns as u32), few(alloc, after)?)),
         },
     }
@@ -94,20 +94,20 @@ fn opening(alloc: Global, mode: Mode, fields: Fields<'_>) -> Result<Command, Fie
     ensures { Gives (λ c. c) result (opening_at mode fields.entry) }
 {
     let Some((who, fields)) = fields.split_first() else {
-        return Err(FieldFault::Bad { cause: 3 });
+        return Err(FaultCause::NoCommand.fault());
     };
     let Some((name_text, fields)) = fields.split_first() else {
-        return Err(FieldFault::Bad { cause: 3 });
+        return Err(FaultCause::NoCommand.fault());
     };
     let Some((policy_text, fields)) = fields.split_first() else {
-        return Err(FieldFault::Bad { cause: 3 });
+        return Err(FaultCause::NoCommand.fault());
     };
     let Some(session) = number(1, u64::from(SESSION_LIMIT), who) else {
-        return Err(FieldFault::Bad { cause: 4 });
+        return Err(FaultCause::NoSession.fault());
     };
     let name = name(alloc, name_text)?;
     let Some(policy) = policy(policy_text) else {
-        return Err(FieldFault::Bad { cause: 6 });
+        return Err(FaultCause::NoPolicy.fault());
     };
     let (turns, latches) = rest(alloc, fields)?;
     Ok(Command::Begin {
@@ -126,11 +126,11 @@ fn named(alloc: Global, fields: Fields<'_>) -> Result<Name, FieldFault>
     ensures { Gives (λ n. n) result (named_at fields.entry) }
 {
     let Some((text, fields)) = fields.split_first() else {
-        return Err(FieldFault::Bad { cause: 3 });
+        return Err(FaultCause::NoCommand.fault());
     };
     match fields.split_first() {
         None => name(alloc, text),
-        Some(_) => Err(FieldFault::Bad { cause: 3 }),
+        Some(_) => Err(FaultCause::NoCommand.fault()),
     }
 }
 
@@ -139,7 +139,7 @@ fn check(alloc: Global, fields: Fields<'_>) -> Result<Command, FieldFault>
     ensures { Gives (λ c. c) result (check_at fields.entry) }
 {
     let Some((text, fields)) = fields.split_first() else {
-        return Err(FieldFault::Bad { cause: 3 });
+        return Err(FaultCause::NoCommand.fault());
     };
     Ok(Command::Check {
         name: name(alloc, text)?,
@@ -153,7 +153,7 @@ fn metrics(fields: Fields<'_>) -> Result<Command, FieldFault>
 {
     match fields.split_first() {
         None => Ok(Command::Metrics),
-        Some(_) => Err(FieldFault::Bad { cause: 3 }),
+        Some(_) => Err(FaultCause::NoCommand.fault()),
     }
 }
 
@@ -163,7 +163,7 @@ pub(crate) fn command(alloc: Global, line: &[u8]) -> Result<Command, FieldFault>
     ensures { Gives (λ c. c) result (command_at (spec.fields line.now)) }
 {
     let Some((word, fields)) = Fields::of(line).split_first() else {
-        return Err(FieldFault::Bad { cause: 3 });
+        return Err(FaultCause::NoCommand.fault());
     };
     if is_word(word, b"acquire") {
         opening(alloc, Mode::Acquire, fields)
@@ -188,6 +188,6 @@ pub(crate) fn command(alloc: Global, line: &[u8]) -> Result<Command, FieldFault>
     } else if is_word(word, b"metrics") {
         metrics(fields)
     } else {
-        Err(FieldFault::Bad { cause: 3 })
+        Err(FaultCause::NoCommand.fault())
     }
 }

@@ -1,5 +1,6 @@
 // Reading a script: line by line, each against the commands before it.
-ghost use Rattle.std.specs.Prelude.{◌≡◌, ◌+◌, ◌<◌, ◌≤◌, ◌^◌, [], ◌∷◌, ◌++◌, length, Err, IfOk, IfSome, List, MatchOption, Ok, Some};
+ghost use Rattle.std.specs.Prelude.{◌≡◌, ◌+◌, ◌<◌, ◌≤◌, ◌^◌, [], ◌∷◌, ◌++◌, length, Err, IfOk, IfSome, List, MatchOption, Ok, OnOk, Some};
+ghost use Rattle.script.specs.Causes.{number_of};
 ghost use Rattle.script.specs.Names.{Keeps};
 ghost use Rattle.script.specs.Outcomes.{Gives, IsAtLine, Reads};
 ghost use Rattle.script.specs.Reading.{commands_at, end_at, fault, lines, script_at};
@@ -11,7 +12,7 @@ ghost use Rattle.script.specs.declared.fault.ReadScript.TheVariants.{Bad};
 
 use crate::command::{Command, Script};
 use crate::draft::Draft;
-use crate::fault::{FieldFault, ReadScript, ScriptFault};
+use crate::fault::{FaultCause, FieldFault, ReadScript, ScriptFault};
 use crate::field::{cut, is_word};
 use crate::limits::TEXT_LIMIT;
 use crate::line::command;
@@ -38,19 +39,22 @@ fn next_line(bytes: &[u8]) -> Option<(&[u8], &[u8])>
     cut(bytes, b'\n')
 }
 
-// The commands with that of one more line, or its first cause.
-fn next(alloc: Global, draft: Draft, line: &[u8]) -> Result<Draft, FieldFault>
-    requires { Keeps draft }
-    ensures commands { Gives (λ d. d.commands.items) result (more_at draft.commands.items line.now) }
-    ensures kept { IfOk result Keeps }
+// Adds the command of one more line, or answers its first cause.
+fn next(alloc: Global, draft: &mut Draft, line: &[u8]) -> Result<(), FieldFault>
+    requires { Keeps draft.old }
+    ensures commands { Gives (λ _. draft.new.commands.items) result (more_at draft.old.commands.items line.now) }
+    ensures kept { OnOk result (Keeps draft.new) }
 {
-    draft.with(alloc, command(alloc, line)?)
+    draft.add(command(alloc, line)?)
 }
 
-fn bad(line: u32, cause: u32) -> ReadScript
-    ensures { result ≡ Bad (record { line = line; cause = cause }) }
+fn bad(line: u32, cause: FaultCause) -> ReadScript
+    ensures { result ≡ Bad (record { line = line; cause = number_of cause }) }
 {
-    ReadScript::Bad(ScriptFault { line, cause })
+    ReadScript::Bad(ScriptFault {
+        line,
+        cause: cause.number(),
+    })
 }
 
 // A fault of this line.
@@ -58,7 +62,7 @@ fn at_line(line: u32, fault: FieldFault) -> ReadScript
     ensures { IsAtLine line fault result }
 {
     match fault {
-        FieldFault::Bad { cause } => bad(line, cause),
+        FieldFault::Bad { cause } => ReadScript::Bad(ScriptFault { line, cause }),
         FieldFault::Memory => ReadScript::Memory,
     }
 }
@@ -71,10 +75,10 @@ fn end(draft: Draft, line: u32, after: &[u8]) -> Result<Vec<Command>, ReadScript
     ensures { Reads (λ v. v.items) result (end_at draft.commands.items line (lines after.now)) }
 {
     if draft.has_live() {
-        return Err(bad(line, 16));
+        return Err(bad(line, FaultCause::OpenAtEnd));
     }
     if !after.is_empty() {
-        return Err(bad(line + 1, 17));
+        return Err(bad(line + 1, FaultCause::BytesBehindEnd));
     }
     Ok(draft.into_commands())
 }
@@ -91,14 +95,13 @@ fn commands(alloc: Global, bytes: &[u8]) -> Result<Vec<Command>, ReadScript>
         if is_word(text, b"end") {
             return end(draft, line, after);
         }
-        match next(alloc, draft, text) {
-            Ok(more) => draft = more,
-            Err(fault) => return Err(at_line(line, fault)),
+        if let Err(fault) = next(alloc, &mut draft, text) {
+            return Err(at_line(line, fault));
         }
         rest = after;
         line += 1;
     }
-    Err(bad(line, 1))
+    Err(bad(line, FaultCause::NoEnd))
 }
 
 #[tactic(auto, unfolding(crate::specs::Reading::script_at))]
@@ -106,13 +109,13 @@ fn all(alloc: Global, bytes: &[u8]) -> Result<Vec<Command>, ReadScript>
     ensures { Reads (λ v. v.items) result (script_at bytes.now) }
 {
     if bytes.len() > TEXT_LIMIT {
-        return Err(bad(0, 18));
+        return Err(bad(0, FaultCause::TooLong));
     }
     let Some((first, after)) = next_line(bytes) else {
-        return Err(bad(1, 1));
+        return Err(bad(1, FaultCause::NoEnd));
     };
     if !is_word(first, b"latch script 1") {
-        return Err(bad(1, 2));
+        return Err(bad(1, FaultCause::OtherFirstLine));
     }
     commands(alloc, after)
 }

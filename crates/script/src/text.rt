@@ -6,7 +6,7 @@ ghost use Rattle.script.specs.Spaced.{spaced};
 ghost use Rattle.script.specs.Texts.{latch_text};
 
 use crate::command::{Command, Name, Script};
-use crate::latch_text::push_latch;
+use crate::latch_text::{push_after, push_latch, push_number};
 use latch_model::latch::{Latch, Latches, Mode, Policy};
 use span_key::Memory;
 use std::alloc::Global;
@@ -45,7 +45,7 @@ fn put_command(out: &mut Vec<u8>, command: &Command) -> Result<(), Memory>
             turns,
             latches,
         } => {
-            put_front(out, *mode, *session, name, *policy)?;
+            put_opening(out, *mode, *session, name, *policy)?;
             put_turns(out, *turns)?;
             put_end(out, latches)
         }
@@ -72,7 +72,7 @@ fn put_named(out: &mut Vec<u8>, word: &[u8], name: &Name) -> Result<(), Memory>
 }
 
 // The first four fields of an opening.
-fn put_front(
+fn put_opening(
     out: &mut Vec<u8>,
     mode: Mode,
     session: u32,
@@ -82,7 +82,7 @@ fn put_front(
     ensures { OnOk result (out.new.items ≡ out.old.items ++ (mode_text mode ++ spaced (decimal session ∷ name.now ∷ policy_text policy ∷ []))) }
 {
     out.extend_from_slice(mode_word(mode))?;
-    put_number(out, session)?;
+    push_after(b' ', u64::from(session), out)?;
     put_field(out, name.bytes())?;
     put_field(out, policy_word(policy))
 }
@@ -123,12 +123,6 @@ fn put_field(out: &mut Vec<u8>, field: &[u8]) -> Result<(), Memory>
     out.extend_from_slice(field)
 }
 
-fn put_number(out: &mut Vec<u8>, n: u32) -> Result<(), Memory>
-    ensures { OnOk result (out.new.items ≡ out.old.items ++ (32 ∷ decimal n)) }
-{
-    put_field(out, itoa::Buffer::new().format(n).as_bytes())
-}
-
 fn put_turns(out: &mut Vec<u8>, turns: Option<u32>) -> Result<(), Memory>
     ensures { OnOk result (out.new.items ≡ out.old.items ++ spaced (turns_fields turns)) }
 {
@@ -136,7 +130,7 @@ fn put_turns(out: &mut Vec<u8>, turns: Option<u32>) -> Result<(), Memory>
         None => Ok(()),
         Some(n) => {
             put_field(out, b"turns=")?;
-            out.extend_from_slice(itoa::Buffer::new().format(n).as_bytes())
+            push_number(u64::from(n), out)
         }
     }
 }

@@ -27,7 +27,8 @@ pub lacks : (p : ℕ → Bool) (b : ℕ) (t : List ℕ) → p b ≡ false → Ea
 lacks p b [] f h = refl
 lacks p b (c ∷ t) f h =
     let g = Each-parts p c t h in
-    let other : eqb c b ≡ false = false_from_ne_true (eqb c b) (λ e. let s : c ≡ b = eqb-true c b e in let x : p b ≡ true = subst (λ (k : ℕ). p k ≡ true) s g.0 in cc) in
+    let other : eqb c b ≡ false = false_from_ne_true (eqb c b)
+    (λ e. let s : c ≡ b = eqb-true c b e in let x : p b ≡ true = subst (λ (k : ℕ). p k ≡ true) s g.0 in cc) in
     or_from (eqb c b) (has_byte b t) other (lacks p b t f g.1)
 
 pub lacks-append : (b : ℕ) (s t : List ℕ) → has_byte b s ≡ false → has_byte b t ≡ false → has_byte b (s ++ t) ≡ false

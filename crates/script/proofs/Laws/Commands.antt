@@ -52,7 +52,8 @@ policy_again Error = refl
 abbrev Reads : List (List ℕ) → Command → Type 0
 Reads fs c = (fs ≡ fields_of c) × IsCommand c
 
-four : (w s n p : List ℕ) (more : List (List ℕ)) (x y z : List ℕ) (rest : List (List ℕ)) → s ≡ x → n ≡ y → p ≡ z → more ≡ rest → w ∷ s ∷ n ∷ p ∷ more ≡ w ∷ x ∷ y ∷ z ∷ rest
+four : (w s n p : List ℕ) (more : List (List ℕ)) (x y z : List ℕ) (rest : List (List ℕ)) → s ≡ x → n ≡ y → p ≡ z → more ≡ rest
+    → w ∷ s ∷ n ∷ p ∷ more ≡ w ∷ x ∷ y ∷ z ∷ rest
 four w s n p more x y z rest a b c d = cc
 
 opening_takes : (mode : Mode) (fs : List (List ℕ)) (c : Command) → opening_at mode fs ≡ Ok c → Reads (mode_text mode ∷ fs) c
@@ -61,7 +62,8 @@ opening_takes mode [] c e = absurd cc
 opening_takes mode (session ∷ []) c e = absurd cc
 opening_takes mode (session ∷ name ∷ []) c e = absurd cc
 opening_takes mode (session ∷ name ∷ policy ∷ more) c e =
-    let s = ok_bound (or_cause 4 (number_at 1 SESSION_LIMIT session)) (λ s. or_cause 5 (name_at name) >>= λ n. or_cause 6 (policy_at policy) >>= λ p. rest_at more >>= λ r. Ok (Begin s n mode p r.0 r.1)) c e in
+    let s = ok_bound (or_cause 4 (number_at 1 SESSION_LIMIT session))
+    (λ s. or_cause 5 (name_at name) >>= λ n. or_cause 6 (policy_at policy) >>= λ p. rest_at more >>= λ r. Ok (Begin s n mode p r.0 r.1)) c e in
     let n = ok_bound (or_cause 5 (name_at name)) (λ n. or_cause 6 (policy_at policy) >>= λ p. rest_at more >>= λ r. Ok (Begin s.0 n mode p r.0 r.1)) c s.2 in
     let p = ok_bound (or_cause 6 (policy_at policy)) (λ p. rest_at more >>= λ r. Ok (Begin s.0 n.0 mode p r.0 r.1)) c n.2 in
     let r = ok_bound (rest_at more) (λ r. Ok (Begin s.0 n.0 mode p.0 r.0 r.1)) c p.2 in
@@ -70,14 +72,22 @@ opening_takes mode (session ∷ name ∷ policy ∷ more) c e =
     let is_policy = policy_takes policy p.0 (cause_ok 6 (policy_at policy) p.0 p.1) in
     let is_rest = rest_takes more r.0 r.1 in
     let made = Begin s.0 n.0 mode p.0 r.0.0 r.0.1 in
-    let is : IsOpening s.0 n.0 r.0.0 r.0.1 = record { session_low = is_session.1; session_high = is_session.2; name_spelled = is_named.1; turns_range = is_rest.1.0; latches_fit = is_rest.1.1 } in
-    subst (Reads (mode_text mode ∷ session ∷ name ∷ policy ∷ more)) {x = made} (ok_is {C = ℕ} made c r.2) (four (mode_text mode) session name policy more (decimal s.0) n.0 (policy_text p.0) (rest_fields r.0) is_session.0 is_named.0 is_policy is_rest.0, is)
+    let is : IsOpening s.0 n.0 r.0.0 r.0.1 = record
+    { session_low = is_session.1; session_high = is_session.2; name_spelled = is_named.1; turns_range = is_rest.1.0; latches_fit = is_rest.1.1 } in
+    subst (Reads (mode_text mode ∷ session ∷ name ∷ policy ∷ more)) {x = made} (ok_is {C = ℕ} made c r.2)
+    (four (mode_text mode) session name policy more (decimal s.0) n.0 (policy_text p.0) (rest_fields r.0) is_session.0 is_named.0 is_policy is_rest.0, is)
 
 opening_again : (session : ℕ) (name : List ℕ) (mode : Mode) (policy : Policy) (turns : Option ℕ) (latches : List Latch) → IsOpening session name turns latches
     → opening_at mode (decimal session ∷ name ∷ policy_text policy ∷ rest_fields (turns, latches)) ≡ Ok (Begin session name mode policy turns latches)
 unfolding opening_at
 opening_again session name mode policy turns latches ok =
-    rw (number_again 1 SESSION_LIMIT session (omega arith) ok.session_low ok.session_high, name_again name ok.name_spelled, policy_again policy, rest_again turns latches (ok.turns_range, ok.latches_fit)) refl
+    rw (
+      number_again 1 SESSION_LIMIT session (omega arith) ok.session_low ok.session_high,
+      name_again name ok.name_spelled,
+      policy_again policy,
+      rest_again
+          turns latches (ok.turns_range, ok.latches_fit),
+    ) refl
 
 named_takes : (fs : List (List ℕ)) (n : List ℕ) → named_at fs ≡ Ok n → (fs ≡ n ∷ []) × IsTrue (is_name n)
 unfolding named_at
@@ -99,7 +109,8 @@ check_takes (name ∷ fs) c e =
     let l = ok_bound (few_at fs) (λ latches. Ok (Check n.0 latches)) c n.2 in
     let an = name_takes name n.0 (cause_ok 5 (name_at name) n.0 n.1) in
     let al = few_takes fs l.0 l.1 in
-    let whole : codes "check" ∷ name ∷ fs ≡ codes "check" ∷ n.0 ∷ map latch_text l.0 = ap (λ (x : List ℕ). codes "check" ∷ x ∷ fs) an.0 ∙ ap (λ (x : List (List ℕ)). codes "check" ∷ n.0 ∷ x) al.0 in
+    let whole : codes "check" ∷ name ∷ fs ≡ codes "check" ∷ n.0 ∷ map latch_text l.0 = ap (λ (x : List ℕ). codes "check" ∷ x ∷ fs) an.0
+    ∙ ap (λ (x : List (List ℕ)). codes "check" ∷ n.0 ∷ x) al.0 in
     subst (Reads (codes "check" ∷ name ∷ fs)) (ok_is {C = ℕ} (Check n.0 l.0) c l.2) (whole, (an.1, al.1))
 
 metrics_takes : (fs : List (List ℕ)) (c : Command) → metrics_at fs ≡ Ok c → Reads (codes "metrics" ∷ fs) c

@@ -1,5 +1,6 @@
 -- A text that is cut at the first place of a byte.
-use Rattle.std.proofs.Common.{◌≡◌, ℕ, suc, ◌+◌, ◌<◌, Bool, true, false, cond, not, eqb, List, [], ◌∷◌, ◌++◌, length, get_or, take, drop, refl, sym, ap, subst, ◌∙◌, one-add, append_assoc, take_at, drop_at, arith}
+use Rattle.std.proofs.Common.{◌≡◌, ℕ, suc, ◌+◌, ◌<◌, Bool, true, false, cond, not, eqb, List, [], ◌∷◌, ◌++◌, length, get_or, take, drop, refl, sym, ap}
+use Rattle.std.proofs.Common.{subst, ◌∙◌, one-add, append_assoc, take_at, drop_at, arith}
 use Rattle.std.specs.List.{position_or_len, before_first, after_first}
 use Rattle.std.proofs.lemmas.Bool.{or_parts, or_right, eqb-true, eq-eqb}
 use Rattle.std.proofs.lemmas.List.{length_push}
@@ -38,7 +39,8 @@ before_again c s t h = ap (λ (n : ℕ). take n (s ++ c ∷ t)) (place_is c s t 
 pub after_again : (c : ℕ) (s t : List ℕ) → has_byte c s ≡ false → after_first (is_byte c) (s ++ c ∷ t) ≡ t
 after_again c s t h =
     let regrouped : s ++ c ∷ t ≡ (s ++ c ∷ []) ++ t = sym (append_assoc s (c ∷ []) t) in
-    ap (λ (n : ℕ). drop (n + 1) (s ++ c ∷ t)) (place_is c s t h) ∙ ap (drop (length s + 1)) regrouped ∙ drop_at (s ++ c ∷ []) t (length s + 1) (length_push s c)
+    ap (λ (n : ℕ). drop (n + 1) (s ++ c ∷ t)) (place_is c s t h) ∙ ap (drop (length s + 1)) regrouped
+    ∙ drop_at (s ++ c ∷ []) t (length s + 1) (length_push s c)
 
 pub has_again : (c : ℕ) (s t : List ℕ) → has_byte c (s ++ c ∷ t) ≡ true
 has_again c [] t = rw (eq-eqb c c refl) refl

@@ -1,9 +1,11 @@
 -- A key is spelled in one way.
-use Rattle.std.proofs.Common.{◌≡◌, ℕ, suc, ◌+◌, ◌*◌, ◌/◌, ◌%◌, ◌<◌, Bool, true, not, ◌||◌, eqb, List, [], ◌∷◌, length, get_or, Option, Some, None, Result, Ok, Err, unwrap_or, refl, sym, ap, subst, ◌∙◌, inl, inr, ◌≢◌, arith}
+use Rattle.std.proofs.Common.{◌≡◌, ℕ, suc, ◌+◌, ◌*◌, ◌/◌, ◌%◌, ◌<◌, Bool, true, not, ◌||◌, eqb, List, [], ◌∷◌, length, get_or, Option, Some, None}
+use Rattle.std.proofs.Common.{Result, Ok, Err, unwrap_or, refl, sym, ap, subst, ◌∙◌, inl, inr, ◌≢◌, arith}
 use Rattle.std.specs.List.{list_all}
 use Rattle.std.specs.Result.{result_ok}
 use Rattle.std.proofs.lemmas.Bool.{or_cases, not-true, eqb-true, agree_below_at}
-use Rattle.hex.specs.Hex.{◌>>=◌, IsBytes, decode_of, decode_pairs, digit_or_error, hex_digit_value, value_at, pair_value, encode_with, encode_lower, lower_digits}
+use Rattle.hex.specs.Hex.{◌>>=◌, IsBytes, decode_of, decode_pairs, digit_or_error, hex_digit_value, value_at, pair_value, encode_with, encode_lower}
+use Rattle.hex.specs.Hex.{lower_digits}
 use Rattle.hex.specs.declared.error.FromHexError.{FromHexError}
 use Rattle.hex.proofs.HexLemmas.{decode_of-even, decode_of-ok, decode_of-encode_lower}
 use Rattle.script.specs.Fields.{is_hex, bytes_at}
@@ -103,7 +105,8 @@ Each-encode_lower (b ∷ bs) h =
     let high = digit_is_hex (b / 16) (omega arith) in
     let low = digit_is_hex (b % 16) (omega arith) in
     let rest = Each-encode_lower bs (λ i. h (suc i)) in
-    Each-cons is_hex (get_or lower_digits (b / 16) 0) (get_or lower_digits (b % 16) 0 ∷ encode_lower bs) high (Each-cons is_hex (get_or lower_digits (b % 16) 0) (encode_lower bs) low rest)
+    Each-cons is_hex (get_or lower_digits (b / 16) 0) (get_or lower_digits (b % 16) 0 ∷ encode_lower bs) high
+    (Each-cons is_hex (get_or lower_digits (b % 16) 0) (encode_lower bs) low rest)
 
 pub bytes_again : (k : List ℕ) → k ≢ [] → IsBytes k → bytes_at (encode_lower k) ≡ Some k
 unfolding bytes_at encode_with

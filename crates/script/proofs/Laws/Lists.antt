@@ -1,5 +1,6 @@
 -- The latches of a line, with the turns before them, are spelled in one way.
-use Rattle.std.proofs.Common.{◌≡◌, ℕ, ◌≤◌, false, cond, ltb, List, [], ◌∷◌, ◌++◌, length, map, Option, Some, None, Ok, Err, decimal, codes, refl, ap, subst, ◌∙◌, inl, inr, append_assoc, arith}
+use Rattle.std.proofs.Common.{◌≡◌, ℕ, ◌≤◌, false, cond, ltb, List, [], ◌∷◌, ◌++◌, length, map, Option, Some, None, Ok, Err, decimal, codes, refl, ap}
+use Rattle.std.proofs.Common.{subst, ◌∙◌, inl, inr, append_assoc, arith}
 use Rattle.std.specs.Prelude.{IfSome}
 use Rattle.std.specs.List.{AllByRecursion}
 use Rattle.std.proofs.lemmas.Bool.{ltb-false, le-ltb}
@@ -8,7 +9,7 @@ use Rattle.latch_model.specs.declared.latch.Access.{Access}
 use Rattle.latch_model.specs.declared.latch.Access.TheVariants.{Read, Write}
 use Rattle.latch_model.specs.declared.latch.Latch.{Latch}
 use Rattle.latch_model.specs.declared.latch.TheConstants.Latches.{LIMIT as latch_limit}
-use Rattle.script.specs.Fields.{◌>>=◌, or_cause, number_at, begins, behind, latch_at}
+use Rattle.script.specs.Fields.{◌>>=◌, or_cause, number_at, begins_with, behind, latch_at}
 use Rattle.script.specs.Lines.{latches_at, few_at, rest_at}
 use Rattle.script.specs.Commands.{turns_fields}
 use Rattle.script.specs.Scripts.{IsScriptLatch, AreScriptLatches}
@@ -44,7 +45,8 @@ few_takes fs ls e =
     let a = ok_bound (latches_at fs) (λ latches. cond (ltb latch_limit (length latches)) (Err 11) (Ok latches)) ls e in
     let few = ok_unless_err (ltb latch_limit (length a.0)) 11 (Ok a.0) ls a.2 in
     let all = latches_take fs a.0 a.1 in
-    subst (λ (x : List Latch). (fs ≡ map latch_text x) × AreScriptLatches x) (ok_is {C = ℕ} a.0 ls few.1) (all.0, record { few = ltb-false latch_limit (length a.0) few.0; each = All-from_recursion IsScriptLatch a.0 all.1 })
+    subst (λ (x : List Latch). (fs ≡ map latch_text x) × AreScriptLatches x) (ok_is {C = ℕ} a.0 ls few.1)
+    (all.0, record { few = ltb-false latch_limit (length a.0) few.0; each = All-from_recursion IsScriptLatch a.0 all.1 })
 
 pub few_again : (ls : List Latch) → AreScriptLatches ls → few_at (map latch_text ls) ≡ Ok ls
 unfolding few_at
@@ -71,11 +73,13 @@ rest_takes [] r e =
     subst (Reads []) (ok_is {C = ℕ} none r e) (refl, (tt, record { few = omega arith; each = All-from_recursion IsScriptLatch [] tt }))
 rest_takes (f ∷ fs) r e =
     let number = or_cause 7 (number_at 1 TURN_LIMIT (behind (codes "turns=") f)) in
-    elim (chosen (begins (codes "turns=") f) (number >>= λ turns. few_at fs >>= λ latches. Ok (Some turns, latches)) (few_at (f ∷ fs) >>= λ latches. Ok (None, latches)) (Ok r) e) [
+    elim (chosen (begins_with (codes "turns=") f) (number >>= λ turns. few_at fs >>= λ latches. Ok (Some turns, latches))
+    (few_at (f ∷ fs) >>= λ latches. Ok (None, latches)) (Ok r) e) [
       | inl with ↦
           let a = ok_bound number (λ turns. few_at fs >>= λ latches. Ok (Some turns, latches)) r with.1 in
           let b = ok_bound (few_at fs) (λ latches. Ok (Some a.0, latches)) r a.2 in
-          let n = number_takes 1 TURN_LIMIT (behind (codes "turns=") f) a.0 (omega arith) (cause_ok 7 (number_at 1 TURN_LIMIT (behind (codes "turns=") f)) a.0 a.1) in
+          let n = number_takes 1 TURN_LIMIT (behind (codes "turns=") f) a.0 (omega arith)
+          (cause_ok 7 (number_at 1 TURN_LIMIT (behind (codes "turns=") f)) a.0 a.1) in
           let few = few_takes fs b.0 b.1 in
           let m : Rest = (Some a.0, b.0) in
           let field : f ≡ codes "turns=" ++ decimal a.0 = begins_takes (codes "turns=") f with.0 ∙ ap (λ (x : List ℕ). codes "turns=" ++ x) n.0 in
@@ -88,12 +92,13 @@ rest_takes (f ∷ fs) r e =
           subst (Reads (f ∷ fs)) (ok_is {C = ℕ} m r b.2) (few.0, (tt, few.1))
     ]
 
-no_turns : (a : Access) (rest : List ℕ) → begins (codes "turns=") (access_text a ++ rest) ≡ false
+no_turns : (a : Access) (rest : List ℕ) → begins_with (codes "turns=") (access_text a ++ rest) ≡ false
 no_turns Read rest = refl
 no_turns Write rest = refl
 
-latch_no_turns : (l : Latch) → begins (codes "turns=") (latch_text l) ≡ false
-latch_no_turns l = ap (begins (codes "turns=")) (append_assoc (access_text l.access) (span_text l.span) (stamp_text l.stamp)) ∙ no_turns l.access (span_text l.span ++ stamp_text l.stamp)
+latch_no_turns : (l : Latch) → begins_with (codes "turns=") (latch_text l) ≡ false
+latch_no_turns l = ap (begins_with (codes "turns=")) (append_assoc (access_text l.access) (span_text l.span) (stamp_text l.stamp))
+    ∙ no_turns l.access (span_text l.span ++ stamp_text l.stamp)
 
 pub rest_again : (turns : Option ℕ) (ls : List Latch) → IsRest (turns, ls) → rest_at (rest_fields (turns, ls)) ≡ Ok (turns, ls)
 unfolding rest_at

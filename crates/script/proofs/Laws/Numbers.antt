@@ -1,5 +1,6 @@
 -- A number is spelled in one way.
-use Rattle.std.proofs.Common.{◌≡◌, ℕ, suc, ◌^◌, ◌<◌, ◌≤◌, Bool, true, not, ◌&&◌, eqb, leb, List, [], ◌∷◌, length, get_or, Some, decimal, refl, sym, ap, subst, ◌∙◌, inl, inr, arith}
+use Rattle.std.proofs.Common.{◌≡◌, ℕ, suc, ◌^◌, ◌<◌, ◌≤◌, Bool, true, not, ◌&&◌, eqb, leb, List, [], ◌∷◌, length, get_or, Some, decimal, refl, sym, ap}
+use Rattle.std.proofs.Common.{subst, ◌∙◌, inl, inr, arith}
 use Rattle.std.specs.List.{list_all}
 use Rattle.std.specs.Char.{is_ascii_digit}
 use Rattle.std.specs.Str.Parse.{digits_value}
@@ -29,7 +30,8 @@ plain_is : (t : List ℕ) → IsPlain t → is_decimal t ≡ true
 plain_is [] p = absurd (let h = p.some in omega arith)
 plain_is (c ∷ []) p = (and_parts (is_ascii_digit c) true p.digits).0
 plain_is (c ∷ d ∷ ds) p =
-    and_from (not (eqb c 48)) (list_all is_ascii_digit (c ∷ d ∷ ds)) (ap not (ne_eqb c 48 (λ e. let l : suc (suc (length ds)) ≡ 1 = p.lead e in omega arith))) p.digits
+    and_from (not (eqb c 48)) (list_all is_ascii_digit (c ∷ d ∷ ds)) (ap not (ne_eqb c 48 (λ e. let l : suc (suc (length ds)) ≡ 1 = p.lead e in omega arith)))
+    p.digits
 
 decimal_plain : (n : ℕ) → n < 2 ^ 64 → IsPlain (decimal n)
 decimal_plain n lt = record { digits = digits_decimal own n lt; some = decimal_nonempty n lt; lead = lead }

@@ -1,5 +1,6 @@
 -- The fields of a command hold no space and no line feed.
-use Rattle.std.proofs.Common.{◌≡◌, ℕ, ◌^◌, ◌<◌, ◌≤◌, Bool, true, false, ◌&&◌, leb, ltb, List, [], ◌∷◌, ◌++◌, length, map, Option, Some, None, decimal, codes, refl, IsTrue, arith}
+use Rattle.std.proofs.Common.{◌≡◌, ℕ, ◌^◌, ◌<◌, ◌≤◌, Bool, true, false, ◌&&◌, leb, ltb, List, [], ◌∷◌, ◌++◌, length, map, Option, Some, None, decimal}
+use Rattle.std.proofs.Common.{codes, refl, IsTrue, arith}
 use Rattle.std.specs.Prelude.{IfSome}
 use Rattle.std.specs.Char.{is_ascii_digit}
 use Rattle.std.specs.List.{AllByRecursion, list_all, join_with_byte}
@@ -56,16 +57,24 @@ access_dark Write = refl
 
 latch_dark : (l : Latch) → IsScriptLatch l → Each is_dark (latch_text l)
 latch_dark l ok =
-    let span = Each-weaker is_span_byte is_dark dark_span (span_text l.span) (Each-span_text l.span (record { some = ok.key; key = ok.span.key.bytes; end = ok.span.end.bytes })) in
-    let stamp = Each-weaker is_stamp_byte is_dark dark_stamp (stamp_text l.stamp) (Each-stamp_text l.stamp (record { wall = ok.wall; logical = ok.logical })) in
-    Each-append is_dark (access_text l.access ++ span_text l.span) (stamp_text l.stamp) (Each-append is_dark (access_text l.access) (span_text l.span) (access_dark l.access) span) stamp
+    let span = Each-weaker is_span_byte is_dark dark_span (span_text l.span)
+    (Each-span_text l.span (record { some = ok.key; key = ok.span.key.bytes; end = ok.span.end.bytes })) in
+    let stamp = Each-weaker is_stamp_byte is_dark dark_stamp (stamp_text l.stamp)
+    (Each-stamp_text l.stamp (record { wall = ok.wall; logical = ok.logical })) in
+    Each-append is_dark (access_text l.access ++ span_text l.span) (stamp_text l.stamp)
+    (Each-append is_dark (access_text l.access) (span_text l.span) (access_dark l.access) span) stamp
+
+-- each byte of a name passes a test that letters and digits pass
+pub name_each : (p : ℕ → Bool) → ((c : ℕ) → is_letter c ≡ true → p c ≡ true) → ((c : ℕ) → is_name_byte c ≡ true → p c ≡ true)
+    → (n : List ℕ) → IsTrue (is_name n) → Each p n
+name_each p first other [] ok = refl
+name_each p first other (c ∷ cs) ok =
+    let w = and_parts (is_letter c) (list_all is_name_byte cs && leb (length cs) 15) ok in
+    let q = and_parts (list_all is_name_byte cs) (leb (length cs) 15) w.1 in
+    Each-cons p c cs (first c w.0) (Each-weaker is_name_byte p other cs q.0)
 
 name_dark : (n : List ℕ) → IsTrue (is_name n) → Each is_dark n
-name_dark [] ok = refl
-name_dark (c ∷ cs) ok =
-    let p = and_parts (is_letter c) (list_all is_name_byte cs && leb (length cs) 15) ok in
-    let q = and_parts (list_all is_name_byte cs) (leb (length cs) 15) p.1 in
-    Each-cons is_dark c cs (dark_letter c p.0) (Each-weaker is_name_byte is_dark dark_name cs q.0)
+name_dark n ok = name_each is_dark dark_letter dark_name n ok
 
 mode_dark : (m : Mode) → Each is_dark (mode_text m)
 mode_dark Acquire = refl
@@ -85,7 +94,8 @@ latches_dark (l ∷ ls) ok = (latch_dark l ok.0, latches_dark ls ok.1)
 are_dark : (ls : List Latch) → AreScriptLatches ls → AreDark (map latch_text ls)
 are_dark ls ok = latches_dark ls (recursion_from_All IsScriptLatch ls ok.each)
 
-rest_dark : (turns : Option ℕ) (ls : List Latch) → IfSome turns (λ n. (1 ≤ n) × (n ≤ TURN_LIMIT)) → AreScriptLatches ls → AreDark (turns_fields turns ++ map latch_text ls)
+rest_dark : (turns : Option ℕ) (ls : List Latch) → IfSome turns (λ n. (1 ≤ n) × (n ≤ TURN_LIMIT)) → AreScriptLatches ls
+    → AreDark (turns_fields turns ++ map latch_text ls)
 rest_dark None ls t ok = are_dark ls ok
 rest_dark (Some n) ls t ok =
     let lt : n < 2 ^ 64 = let h = t.1 in omega arith in
@@ -117,7 +127,8 @@ joined_each : (fs : List (List ℕ)) → AreDark fs → Each is_line_byte (join_
 joined_each [] h = refl
 joined_each (f ∷ []) h = Each-weaker is_dark is_line_byte line_weaker f h.0
 joined_each (f ∷ g ∷ fs) h =
-    Each-append is_line_byte f (32 ∷ join_with_byte 32 (g ∷ fs)) (Each-weaker is_dark is_line_byte line_weaker f h.0) (Each-cons is_line_byte 32 (join_with_byte 32 (g ∷ fs)) refl (joined_each (g ∷ fs) h.1))
+    Each-append is_line_byte f (32 ∷ join_with_byte 32 (g ∷ fs)) (Each-weaker is_dark is_line_byte line_weaker f h.0)
+    (Each-cons is_line_byte 32 (join_with_byte 32 (g ∷ fs)) refl (joined_each (g ∷ fs) h.1))
 
 pub no_line_feed : (fs : List (List ℕ)) → AreDark fs → has_byte 10 (join_with_byte 32 fs) ≡ false
 no_line_feed fs h = lacks is_line_byte 10 (join_with_byte 32 fs) refl (joined_each fs h)

@@ -1,5 +1,6 @@
 -- A script is spelled in one way: what is read is spelled so, what is spelled so is read, and a fault comes where nothing is spelled.
-use Rattle.std.proofs.Common.{◌≡◌, ◌≤◌, ◌↔◌, ℕ, zero, suc, false, ltb, List, [], ◌∷◌, ◌++◌, length, map, take, slice_get, Some, None, Result, Ok, Err, codes, refl, sym, ap, subst, ◌∙◌, append-nil, append_assoc, All}
+use Rattle.std.proofs.Common.{◌≡◌, ◌≤◌, ◌↔◌, ℕ, zero, suc, false, ltb, List, [], ◌∷◌, ◌++◌, length, map, take, slice_get, Some, None, Result, Ok, Err}
+use Rattle.std.proofs.Common.{codes, refl, sym, ap, subst, ◌∙◌, append-nil, append_assoc, All}
 use Rattle.std.specs.Str.{bytes_eq}
 use Rattle.std.specs.Result.{result_err}
 use Rattle.std.specs.List.{AllByRecursion, slice_split, flat_map}
@@ -15,23 +16,26 @@ use Rattle.script.specs.declared.limits.TheConstants.{TEXT_LIMIT}
 use Rattle.script.proofs.Laws.Steps.{ok_is, ok_unless_err, ok_when}
 use Rattle.script.proofs.Laws.Printed.{fields_dark, no_line_feed}
 use Rattle.script.proofs.Laws.Parts.{first_part, same_parts}
-use Rattle.script.proofs.Laws.Walk.{body, last, Follow, Walk, commands_take, commands_again}
+use Rattle.script.proofs.Laws.Walk.{body, last, MayFollow, Walk, commands_take, commands_again}
 
 -- ---- the rules, by the place of a command and by steps
 
-follow_at : (front more : List Command) → Follow front more → (n : ℕ) (c : Command) → slice_get more n ≡ Some c → rule_cause (front ++ take n more) c ≡ None
-follow_at front [] rules n c e = absurd cc
-follow_at front (d ∷ more) rules zero c e =
+follow_at : (earlier more : List Command) → MayFollow earlier more → (n : ℕ) (c : Command) → slice_get more n ≡ Some c
+    → rule_cause (earlier ++ take n more) c ≡ None
+follow_at earlier [] rules n c e = absurd cc
+follow_at earlier (d ∷ more) rules zero c e =
     let same : d ≡ c = cc in
-    subst (λ (x : Command). rule_cause (front ++ []) x ≡ None) same (rw append-nil rules.0)
-follow_at front (d ∷ more) rules (suc n) c e =
-    subst (λ (x : List Command). rule_cause x c ≡ None) (append_assoc front (d ∷ []) (take n more)) (follow_at (front ++ d ∷ []) more rules.1 n c e)
+    subst (λ (x : Command). rule_cause (earlier ++ []) x ≡ None) same (rw append-nil rules.0)
+follow_at earlier (d ∷ more) rules (suc n) c e =
+    subst (λ (x : List Command). rule_cause x c ≡ None) (append_assoc earlier (d ∷ []) (take n more)) (follow_at (earlier ++ d ∷ []) more rules.1 n c e)
 
-follow_from : (front more : List Command) → ((n : ℕ) (c : Command) → slice_get more n ≡ Some c → rule_cause (front ++ take n more) c ≡ None) → Follow front more
-follow_from front [] at = tt
-follow_from front (d ∷ more) at = (
-  subst (λ (x : List Command). rule_cause x d ≡ None) (append-nil front) (at 0 d refl),
-  follow_from (front ++ d ∷ []) more (λ n c e. subst (λ (x : List Command). rule_cause x c ≡ None) (sym (append_assoc front (d ∷ []) (take n more))) (at (suc n) c e)),
+follow_from : (earlier more : List Command) → ((n : ℕ) (c : Command) → slice_get more n ≡ Some c → rule_cause (earlier ++ take n more) c ≡ None)
+    → MayFollow earlier more
+follow_from earlier [] at = tt
+follow_from earlier (d ∷ more) at = (
+  subst (λ (x : List Command). rule_cause x d ≡ None) (append-nil earlier) (at 0 d refl),
+  follow_from (earlier ++ d ∷ []) more
+      (λ n c e. subst (λ (x : List Command). rule_cause x c ≡ None) (sym (append_assoc earlier (d ∷ []) (take n more))) (at (suc n) c e)),
 )
 
 -- ---- all lines
@@ -42,7 +46,7 @@ lines_of cs = codes "latch script 1" ∷ (map body cs ++ last)
 from_walk : (rest : List (List ℕ)) (cs : List Command) → Walk [] rest cs → (rest ≡ map body cs ++ last) × IsScript cs
 from_walk rest cs w =
     let same : w.more ≡ cs = sym w.whole in
-    let rules : Follow [] cs = subst (Follow []) same w.rules in (
+    let rules : MayFollow [] cs = subst (MayFollow []) same w.rules in (
       w.parts ∙ ap (λ (x : List Command). map body x ++ last) same,
       record {
         commands = All-from_recursion IsCommand cs (subst (AllByRecursion IsCommand) same w.each);
@@ -67,7 +71,8 @@ all_step [] cs e = absurd cc
 all_step (next ∷ more) cs e = e
 
 pub all_again : (cs : List Command) → IsScript cs → all_at (lines_of cs) ≡ Ok cs
-all_again cs ok = all_step (map body cs ++ last) cs (commands_again [] 2 cs (recursion_from_All IsCommand cs ok.commands) (follow_from [] cs ok.rules) ok.released)
+all_again cs ok = all_step (map body cs ++ last) cs
+    (commands_again [] 2 cs (recursion_from_All IsCommand cs ok.commands) (follow_from [] cs ok.rules) ok.released)
 
 -- ---- the lines of a spelling
 
@@ -77,7 +82,8 @@ regrouped a x f t = simp append_assoc
 abbrev lines_text : List Command → List ℕ
 lines_text cs = flat_map (λ c. line_of (fields_of c)) cs
 
-lines_again : (cs : List Command) (t : List ℕ) → AllByRecursion IsCommand cs → slice_split (is_byte 10) (lines_text cs ++ t) ≡ map body cs ++ slice_split (is_byte 10) t
+lines_again : (cs : List Command) (t : List ℕ) → AllByRecursion IsCommand cs
+    → slice_split (is_byte 10) (lines_text cs ++ t) ≡ map body cs ++ slice_split (is_byte 10) t
 lines_again [] t ok = refl
 lines_again (c ∷ cs) t ok =
     ap (slice_split (is_byte 10)) (regrouped (body c) 10 (lines_text cs) t)
@@ -110,7 +116,8 @@ script_takes b cs e =
 pub script_again : (b : List ℕ) (cs : List Command) → Spells b cs → script_at b ≡ Ok cs
 unfolding script_at
 script_again b cs s =
-    let short : ltb TEXT_LIMIT (length b) ≡ false = le-ltb TEXT_LIMIT (length b) (subst (λ (x : List ℕ). length x ≤ TEXT_LIMIT) (sym s.spelled) s.fits.short) in
+    let short : ltb TEXT_LIMIT (length b) ≡ false = le-ltb TEXT_LIMIT (length b)
+    (subst (λ (x : List ℕ). length x ≤ TEXT_LIMIT) (sym s.spelled) s.fits.short) in
     let read : all_at (lines b) ≡ Ok cs = ap (λ (x : List ℕ). all_at (lines x)) s.spelled ∙ text_again cs s.script in
     rw short read
 

@@ -33,8 +33,13 @@ span_takes t s e =
           let key = bytes_takes front a.0 a.1 in
           let end = bytes_takes back b.0 b.1 in
           let made : Pair = (a.0, b.0) in
-          let whole : t ≡ encode_lower a.0 ++ (45 ∷ encode_lower b.0) = cut_takes 45 t range.0 ∙ parts_same 45 front back (encode_lower a.0) (encode_lower b.0) key.0 end.0 in
-          subst (λ (p : Pair). (t ≡ span_text p) × IsKeyed p) (some_is made s b.2) (whole ∙ sym (range_text a.0 b.0 end.1), record { some = key.1; key = key.2; end = end.2 })
+          let whole : t ≡ encode_lower a.0 ++ (45 ∷ encode_lower b.0) = cut_takes 45 t range.0
+          ∙ parts_same 45 front back (encode_lower a.0) (encode_lower b.0) key.0 end.0 in
+          subst (λ (p : Pair). (t ≡ span_text p) × IsKeyed p) (some_is made s b.2) (
+            whole
+                ∙ sym (range_text a.0 b.0 end.1),
+            record { some = key.1; key = key.2; end = end.2 },
+          )
       | inr point ↦
           let a = some_bound (bytes_at t) (λ key. Some (key, [])) s point.1 in
           let key = bytes_takes t a.0 a.1 in
@@ -65,4 +70,5 @@ Each-key k h = Each-weaker is_hex is_span_byte (λ c g. or_left (is_hex c) (eqb 
 pub Each-span_text : (s : Pair) → IsKeyed s → Each is_span_byte (span_text s)
 Each-span_text (key, []) ok = Each-key key ok.key
 Each-span_text (key, b ∷ bs) ok =
-    Each-append is_span_byte (encode_lower key) (45 ∷ encode_lower (b ∷ bs)) (Each-key key ok.key) (Each-cons is_span_byte 45 (encode_lower (b ∷ bs)) refl (Each-key (b ∷ bs) ok.end))
+    Each-append is_span_byte (encode_lower key) (45 ∷ encode_lower (b ∷ bs)) (Each-key key ok.key)
+    (Each-cons is_span_byte 45 (encode_lower (b ∷ bs)) refl (Each-key (b ∷ bs) ok.end))

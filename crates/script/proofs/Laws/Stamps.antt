@@ -1,5 +1,6 @@
 -- A stamp is spelled in one way.
-use Rattle.std.proofs.Common.{◌≡◌, ℕ, ◌^◌, ◌<◌, Bool, true, false, cond, ◌&&◌, ◌||◌, eqb, List, [], ◌∷◌, ◌++◌, Some, decimal, refl, sym, ap, subst, ◌∙◌, inl, inr, arith}
+use Rattle.std.proofs.Common.{◌≡◌, ℕ, ◌^◌, ◌<◌, Bool, true, false, cond, ◌&&◌, ◌||◌, eqb, List, [], ◌∷◌, ◌++◌, Some, decimal, refl, sym, ap, subst, ◌∙◌}
+use Rattle.std.proofs.Common.{inl, inr, arith}
 use Rattle.std.specs.Char.{is_ascii_digit}
 use Rattle.std.specs.List.{before_first, after_first}
 use Rattle.std.proofs.lemmas.Bool.{and_parts, and_left, and_right, or_left, cases_Bool, eqb-true, eqb-false, ne_eqb}
@@ -28,7 +29,8 @@ unfolding stamp_at
 stamp_takes t s e =
     let front = before_first (is_byte 46) t in
     let back = after_first (is_byte 46) t in
-    elim (chosen (has_byte 46 t) (number_at 0 18446744073709551615 front >>? λ wall. number_at 1 4294967295 back >>? λ logical. Some (made wall logical)) (number_at 1 18446744073709551615 t >>? λ wall. Some (made wall 0)) (Some s) e) [
+    elim (chosen (has_byte 46 t) (number_at 0 18446744073709551615 front >>? λ wall. number_at 1 4294967295 back >>? λ logical. Some (made wall logical))
+    (number_at 1 18446744073709551615 t >>? λ wall. Some (made wall 0)) (Some s) e) [
       | inl two ↦
           let a = some_bound (number_at 0 18446744073709551615 front) (λ wall. number_at 1 4294967295 back >>? λ logical. Some (made wall logical)) s two.1 in
           let b = some_bound (number_at 1 4294967295 back) (λ logical. Some (made a.0 logical)) s a.2 in
@@ -37,12 +39,18 @@ stamp_takes t s e =
           let some : eqb b.0 0 ≡ false = ne_eqb b.0 0 (λ z. omega arith) in
           let whole : t ≡ decimal a.0 ++ (46 ∷ decimal b.0) = cut_takes 46 t two.0 ∙ parts_same 46 front back (decimal a.0) (decimal b.0) wall.0 logical.0 in
           let body : stamp_body (made a.0 b.0) ≡ decimal a.0 ++ (46 ∷ decimal b.0) = rw some refl in
-          subst (λ (p : Stamp). (t ≡ stamp_body p) × (is_empty_stamp p ≡ false) × IsInRange p) (some_is (made a.0 b.0) s b.2) (whole ∙ sym body, and_right (eqb a.0 0) (eqb b.0 0) some, record { wall = omega arith; logical = omega arith })
+          subst (λ (p : Stamp). (t ≡ stamp_body p) × (is_empty_stamp p ≡ false) × IsInRange p) (some_is (made a.0 b.0) s b.2) (
+            whole
+                ∙ sym body,
+            and_right (eqb a.0 0) (eqb b.0 0) some,
+            record { wall = omega arith; logical = omega arith },
+          )
       | inr one ↦
           let a = some_bound (number_at 1 18446744073709551615 t) (λ wall. Some (made wall 0)) s one.1 in
           let wall = number_takes 1 18446744073709551615 t a.0 (omega arith) a.1 in
           let some : eqb a.0 0 ≡ false = ne_eqb a.0 0 (λ z. omega arith) in
-          subst (λ (p : Stamp). (t ≡ stamp_body p) × (is_empty_stamp p ≡ false) × IsInRange p) (some_is (made a.0 0) s a.2) (wall.0, and_left (eqb a.0 0) true some, record { wall = omega arith; logical = omega arith })
+          subst (λ (p : Stamp). (t ≡ stamp_body p) × (is_empty_stamp p ≡ false) × IsInRange p) (some_is (made a.0 0) s a.2)
+          (wall.0, and_left (eqb a.0 0) true some, record { wall = omega arith; logical = omega arith })
     ]
 
 digits_lack : (n b : ℕ) → n < 2 ^ 64 → is_ascii_digit b ≡ false → has_byte b (decimal n) ≡ false
@@ -52,7 +60,15 @@ two_again : (w l : ℕ) → w < 2 ^ 64 → 0 < l → l < 2 ^ 32 → stamp_at (de
 unfolding stamp_at
 two_again w l hw pos hl =
     let clear = digits_lack w 46 hw refl in
-    rw (has_again 46 (decimal w) (decimal l), before_again 46 (decimal w) (decimal l) clear, after_again 46 (decimal w) (decimal l) clear, number_again 0 18446744073709551615 w (omega arith) (omega arith) (omega arith), number_again 1 4294967295 l (omega arith) (omega arith) (omega arith)) refl
+    rw (
+      has_again 46 (decimal w) (decimal l),
+      before_again 46 (decimal w) (decimal l) clear,
+      after_again 46 (decimal w)
+          (decimal l) clear,
+      number_again 0 18446744073709551615 w (omega arith) (omega arith) (omega arith),
+      number_again 1 4294967295 l (omega arith)
+          (omega arith) (omega arith),
+    ) refl
 
 one_again : (w : ℕ) → w < 2 ^ 64 → 0 < w → stamp_at (decimal w) ≡ Some (made w 0)
 unfolding stamp_at
@@ -60,7 +76,8 @@ one_again w hw pos =
     let clear = digits_lack w 46 hw refl in
     rw (clear, number_again 1 18446744073709551615 w (omega arith) (omega arith) (omega arith)) refl
 
-by_logical : (w l : ℕ) (b : Bool) → w < 2 ^ 64 → l < 2 ^ 32 → (eqb w 0 && eqb l 0) ≡ false → eqb l 0 ≡ b → stamp_at (cond b (decimal w) (decimal w ++ (46 ∷ decimal l))) ≡ Some (made w l)
+by_logical : (w l : ℕ) (b : Bool) → w < 2 ^ 64 → l < 2 ^ 32 → (eqb w 0 && eqb l 0) ≡ false → eqb l 0 ≡ b
+    → stamp_at (cond b (decimal w) (decimal w ++ (46 ∷ decimal l))) ≡ Some (made w l)
 by_logical w l true hw hl some e =
     let z : l ≡ 0 = eqb-true l 0 e in
     let pos : 0 < w = elim (cases_Bool (eqb w 0)) [
@@ -111,4 +128,5 @@ Each-stamp_text s ok =
     let l = Each-digits s.logical lt in
     let two = Each-append is_stamp_byte (decimal s.wall) (46 ∷ decimal s.logical) w (Each-cons is_stamp_byte 46 (decimal s.logical) refl l) in
     Each-cond is_stamp_byte (is_empty_stamp s) [] (cond (eqb s.logical 0) (64 ∷ decimal s.wall) (64 ∷ (decimal s.wall ++ (46 ∷ decimal s.logical)))) refl
-    (Each-cond is_stamp_byte (eqb s.logical 0) (64 ∷ decimal s.wall) (64 ∷ (decimal s.wall ++ (46 ∷ decimal s.logical))) (Each-cons is_stamp_byte 64 (decimal s.wall) refl w) (Each-cons is_stamp_byte 64 (decimal s.wall ++ (46 ∷ decimal s.logical)) refl two))
+    (Each-cond is_stamp_byte (eqb s.logical 0) (64 ∷ decimal s.wall) (64 ∷ (decimal s.wall ++ (46 ∷ decimal s.logical)))
+    (Each-cons is_stamp_byte 64 (decimal s.wall) refl w) (Each-cons is_stamp_byte 64 (decimal s.wall ++ (46 ∷ decimal s.logical)) refl two))

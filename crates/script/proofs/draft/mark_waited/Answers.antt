@@ -4,6 +4,7 @@ use Rattle.script.proofs.Maps.{marked}
 use Rattle.script.proofs.draft.mark_waited.Goals as goal
 
 pub returns-in-Some : goal.returns-in-Some
-returns-in-Some c = λ q.
+returns-in-Some c =
     let w = waits c.in-Some.known.now in
-    marked c.args.opened.now (c.get_mut.follows.lender w) c.args.name.now waits c.in-Some.known.now (sym c.in-Some.ensures.value) ((c.get_mut.follows.holds w).3 (search rules)) q
+    marked c.args.opened.now (c.get_mut.follows.lender w) c.args.name waits c.in-Some.known.now (sym c.in-Some.ensures.value)
+    ((c.get_mut.follows.holds w).3 (search rules)).0

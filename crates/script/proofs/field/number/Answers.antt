@@ -8,4 +8,5 @@ returns-in_default c = absurd (c.in_default.ensures.cases.0 (is_text c.args.text
 pub returns-in_default-parse-clause-value : goal.returns-in_default-parse-clause-value
 returns-in_default-parse-clause-value c =
     let same : c.in-Ok.digits.now ≡ c.args.text.now = c.in-Ok.ensures.cases.0 in
-    too_large c.args.low c.args.high c.args.text.now c.parse.result _ (rw same at c.parse.ensures.value.0) (sym c.is_decimal.ensures ∙ c.if-not-is_decimal.false) c.in_default-parse.is (omega arith)
+    too_large c.args.low c.args.high c.args.text.now c.parse.result _ (rw same at c.parse.ensures.value.0) (sym c.is_decimal.ensures
+    ∙ c.if-not-is_decimal.false) c.in_default-parse.is (omega arith)

@@ -9,14 +9,16 @@ pub returns-then-is_word : goal.returns-then-is_word
 returns-then-is_word c =
     let l = c.loop-text in
     let total = commands_at [] 2 (lines c.args.bytes.now) in
-    let same = at_end l.draft.commands.items l.line l.rest.now c.in-Some.text.now c.in-Some.after.now total c.in-Some.ensures.line l.invariant.reads (sym c.is_word.ensures ∙ c.if-is_word.true) in
+    let same = at_end l.draft.commands.items l.line l.rest.now c.in-Some.text.now c.in-Some.after.now total c.in-Some.ensures.line l.invariant.reads
+    (sym c.is_word.ensures ∙ c.if-is_word.true) in
     subst (λ (read : Result (List Command) (ℕ × ℕ)). Reads (λ (v : Vec Command Global). v.items) c.end.result read) same c.end.ensures
 
 pub returns-in-Err : goal.returns-in-Err
 returns-in-Err c =
     let l = c.loop-text in
     let total = commands_at [] 2 (lines c.args.bytes.now) in
-    at_fault c.in-Err.fault c.at_line.result l.draft.commands.items l.line l.rest.now c.in-Some.text.now c.in-Some.after.now total c.at_line.ensures c.in-Err.ensures.commands
+    at_fault c.in-Err.fault c.at_line.result l.draft.commands.items l.line l.rest.now c.in-Some.text.now c.in-Some.after.now total c.at_line.ensures
+    c.in-Err.ensures.commands
     c.in-Some.ensures.line l.invariant.reads (sym c.is_word.ensures ∙ c.if-is_word.false)
 
 pub loop-text-preserved : goal.loop-text-preserved
@@ -26,8 +28,9 @@ loop-text-preserved c =
     let shorter = c.in-Some.ensures.shorter in
     let count = l.invariant.count in
     record {
-      kept = c.in-Ok.ensures.kept;
-      reads = goes_on l.draft.commands.items c.in-Ok.more.commands.items l.line l.rest.now c.in-Some.text.now c.in-Some.after.now total c.in-Ok.ensures.commands
+      kept = c.in_default-next.ensures.kept;
+      reads = goes_on l.draft.commands.items c.next.new.draft.commands.items l.line l.rest.now c.in-Some.text.now c.in-Some.after.now total
+          c.in_default-next.ensures.commands
           c.in-Some.ensures.line l.invariant.reads (sym c.is_word.ensures ∙ c.if-is_word.false);
       count = omega arith;
     }

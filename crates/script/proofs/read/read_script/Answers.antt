@@ -26,7 +26,8 @@ returns-in_err-all-clause-only c = λ cs s.
     rw (p.1, p.2) (only_fails c.in_err-all.field-0.0 c.args.bytes.now cs c.in_err-all.ensures s)
 
 pub returns-clause-found : goal.returns-clause-found
-returns-clause-found c = subst (λ (cs : List Command). Spells c.args.bytes.now cs) (sym c.of.ensures) (script_takes c.args.bytes.now c.in_ok-all.field-0.items c.in_ok-all.ensures)
+returns-clause-found c = subst (λ (cs : List Command). Spells c.args.bytes.now cs) (sym c.of.ensures)
+    (script_takes c.args.bytes.now c.in_ok-all.field-0.items c.in_ok-all.ensures)
 
 pub returns-clause-only : goal.returns-clause-only
 returns-clause-only c = λ cs s. sym (script_again c.args.bytes.now cs s) ∙ c.in_ok-all.ensures ∙ ap done (sym c.of.ensures)

@@ -10,4 +10,5 @@ use Rattle.script.proofs.spelling.generated_for_one.Goals as goal
 
 -- the generated name, whose number is spelled by its one digit
 pub returns : goal.returns
-returns c = ap (λ (d : List ℕ). Begin 1 (113 ∷ d) Acquire policy_wait None (first_latch ∷ second_latch ∷ []) ∷ Wait (113 ∷ d) ∷ Release (113 ∷ d) ∷ []) (decimal_digit 0 (omega arith))
+returns c = ap (λ (d : List ℕ). Begin 1 (113 ∷ d) Acquire policy_wait None (first_latch ∷ second_latch ∷ []) ∷ Wait (113 ∷ d) ∷ Release (113 ∷ d) ∷ [])
+    (decimal_digit 0 (omega arith))

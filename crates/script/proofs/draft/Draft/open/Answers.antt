@@ -1,7 +1,8 @@
-use Rattle.std.proofs.Common.{◌∙◌}
-use Rattle.script.proofs.Maps.{inserted}
+use Rattle.std.proofs.Common.{Some}
+use Rattle.script.proofs.Maps.{changed}
 use Rattle.script.proofs.draft.Draft.open.Goals as goal
 
 pub returns-clause-opened : goal.returns-clause-opened
 returns-clause-opened c =
-    inserted c.args.self.now.opened c.insert.new.self c.in_ok-text.text c.args.name.now c.args.opened (c.in_ok-text.ensures.ok ∙ c.as_str.ensures) c.in_ok-insert.ensures.updates
+    changed c.args.self.now.opened c.insert.new.self c.packed.result c.args.name.now (Some c.args.opened) c.packed.ensures.number c.packed.ensures.spelled
+    c.in_ok-insert.ensures.updates.0
