@@ -13,8 +13,7 @@ ghost use Rattle.script.specs.declared.command.Command.{Command as AnyCommand};
 
 use hlc_stamp::Stamp;
 use latch_model::{Access, Entry, Latch, Sizes, conflicts, laws, legal_so_far};
-use script::fault::{ReadScript, ScriptFault};
-use script::read_script;
+use script::{ReadScript, ScriptFault, read_script};
 use span_key::{Key, KeyFault, Memory, Span};
 use std::alloc::Global;
 
