@@ -10,7 +10,7 @@ use Rattle.script.specs.declared.command.Command.{Command}
 use Rattle.script.proofs.Laws.Scripts.{script_again, script_takes}
 use Rattle.step_run.specs.Steps.{step_output}
 use Rattle.latch_tool.specs.Outcomes.{AnswersStep, Ends, HasScript, IsRead, Reading, WritesAll, WritesSteps, decided, fault_line, step_answer}
-use Rattle.latch_tool.specs.declared.run.TheConstants.{TEXT_LIMIT}
+use Rattle.script.specs.declared.limits.TheConstants.{TEXT_LIMIT}
 use Rattle.latch_tool.specs.declared.form.Form.TheVariants as form
 use Rattle.latch_tool.specs.declared.status.Status.{Status}
 use Rattle.latch_tool.specs.declared.status.Status.TheVariants.{Done, Usage, Script, ReadFault, WriteFault, Memory}

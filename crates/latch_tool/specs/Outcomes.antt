@@ -6,7 +6,7 @@ use Rattle.script.specs.Reading.{script_at}
 use Rattle.script.specs.Scripts.{Spells}
 use Rattle.script.specs.declared.command.Command.{Command}
 use Rattle.step_run.specs.Steps.{step_output}
-use Rattle.latch_tool.specs.declared.run.TheConstants.{TEXT_LIMIT}
+use Rattle.script.specs.declared.limits.TheConstants.{TEXT_LIMIT}
 use Rattle.latch_tool.specs.Words.{reads, takes_memory}
 use Rattle.latch_tool.specs.declared.form.Form.{Form}
 use Rattle.latch_tool.specs.declared.form.Form.TheVariants as form

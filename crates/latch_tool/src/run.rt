@@ -12,7 +12,7 @@ use crate::status::Status;
 use itoa::Buffer;
 use port_io::{Failed, ReadFault, Sink, Source, read_all, write_piece};
 use script::fault::ReadScript;
-use script::read_script;
+use script::{TEXT_LIMIT, read_script};
 use std::alloc::{AllocError, Global};
 use std::sync::Wait;
 use std::thread::Threads;
@@ -20,9 +20,6 @@ use step_run::{RunFault, run_step};
 
 /// The line for words that are no form.
 const USAGE: &[u8] = b"usage: latch step | replay [--json] | make N | help\n";
-
-/// The most bytes of a script.
-const TEXT_LIMIT: usize = 4_194_304;
 
 /// Runs the program on these words, and answers how it ended.
 ///
