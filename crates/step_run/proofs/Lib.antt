@@ -9,3 +9,4 @@ pub mod Stepping
 pub mod Seeing
 pub mod Runs
 pub mod LastLine
+pub mod Room

@@ -1,9 +1,13 @@
 -- The commands of a script one after another.
 use Rattle.std.proofs.Common.{◌≡◌, ℕ, ◌+◌, ◌<◌, List, [], ◌∷◌, ◌++◌, length, take, get_or, refl, sym, ap, ◌∙◌}
 use Rattle.std.proofs.lemmas.List.{append-nil, append_assoc, take_more}
+use Rattle.std.proofs.lemmas.List.Elements.{All-contains}
+use Rattle.script.specs.Scripts.{IsCommand, IsScript}
 use Rattle.script.specs.declared.command.Command.{Command}
+use Rattle.script.specs.declared.command.Command.TheVariants.{Begin as Open, Wait, Check, Poison, Release, Metrics}
 use Rattle.step_run.specs.State.{State, start}
 use Rattle.step_run.specs.Steps.{Step, after, next_line, one, run, silent}
+use Rattle.step_run.specs.Room.{IsSmall}
 use Rattle.step_run.specs.Running.{one_now}
 use Rattle.step_run.specs.Views.{StepsTo, seen_run}
 use Rattle.step_run.specs.declared.run.StepRun.{StepRun}
@@ -58,3 +62,15 @@ stands_next cs i c r new out more l e s h =
           ∙ ap (λ w. written_by (take i cs) ++ w) (sym next.written ∙ sym (append-nil (one (reached (take i cs)) c).written))
           ∙ sym (ap (λ (t : Step). t.written) pushed);
     }
+
+-- each command of a script declares few latches
+small_of : (c : Command) → IsCommand c → IsSmall c
+small_of (Open session name mode policy turns latches) h = h.latches_fit.few
+small_of (Wait name) h = tt
+small_of (Check name latches) h = tt
+small_of (Poison name) h = tt
+small_of (Release name) h = tt
+small_of Metrics h = tt
+
+pub small_at : (cs : List Command) (i : ℕ) (c : Command) → i < length cs → c ≡ get_or cs i c → IsScript cs → IsSmall c
+small_at cs i c l e s = small_of c (All-contains IsCommand cs c s.commands (i, l, sym e))

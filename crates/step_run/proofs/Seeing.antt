@@ -37,11 +37,11 @@ pub at_place_is : (r : Running) (xs : List Live) (i : ℕ) (x : Live) (f : ℕ �
 at_place_is r xs i x f e l = ap (λ o. at_kept r i o f) (seen_get xs i x e l)
 
 -- What has happened to the name at a place and is counted is what is kept afterwards.
-turn_counted : (old mid new : StepRun) (i : ℕ) (t : Turned) (y : Live) (before after : List ℕ) (ending : Option Ending) →
+pub turn_ends : (old mid new : StepRun) (i : ℕ) (t : Turned) (y : Live) (before after : List ℕ) (ending : Option Ending) →
     TurnsTo t y before after ending → mid.lives.items ≡ slice_set old.lives.items i y → mid.entries ≡ old.entries → mid.summary ≡ old.summary →
     mid.global_writer ≡ old.global_writer → mid.local_writer ≡ old.local_writer → Counts ending mid new →
     StepsTo (stepped i t (seen_run old)) new before after
-turn_counted old mid new i t y before after ending h a b c d e k = record {
+turn_ends old mid new i t y before after ending h a b c d e k = record {
   written = h.written;
   leaves = running_made _ _ _ _ _ _ _ _ _ _
       (ap (λ xs. map seen_live xs) (k.lives ∙ a) ∙ map-set seen_live old.lives.items i y ∙ ap (λ l. slice_set (map seen_live old.lives.items) i l) h.becomes)
@@ -49,12 +49,6 @@ turn_counted old mid new i t y before after ending h a b c d e k = record {
       (k.summary ∙ ap (λ s. with_ending ending s) c ∙ ap (λ o. with_ending o old.summary) h.ends)
       (k.global_writer ∙ d) (k.local_writer ∙ e);
 }
-
-pub turn_ends : {T E : Type 0} (r : Result T E) (old mid new : StepRun) (i : ℕ) (t : Turned) (y : Live) (before after : List ℕ)
-    (ending : Option Ending) → TurnsTo t y before after ending → mid.lives.items ≡ slice_set old.lives.items i y → mid.entries ≡ old.entries →
-    mid.summary ≡ old.summary → mid.global_writer ≡ old.global_writer → mid.local_writer ≡ old.local_writer → OnOk r (Counts ending mid new) →
-    OnOk r (StepsTo (stepped i t (seen_run old)) new before after)
-turn_ends r old mid new i t y before after ending h a b c d e k = on_ok_weaker r (turn_counted old mid new i t y before after ending h a b c d e) k
 
 pub turn_is : (n : Kept) (entries : ℕ) (lives : List Kept) (p : Bool) (o : Option HeldLatch) → p ≡ poisoned_met lives o → o ≡ blocker n lives →
     decided_if n entries p o ≡ turn_now n entries lives
@@ -76,11 +70,11 @@ waits_optimistic r r1 i k a e =
     (λ j n. turn_at j n (with_lives r (slice_set r.lives i (without_check k))))) (get-set r.lives i k (without_check k) a)
 
 -- a release
-release_counted : (old mid new : StepRun) (i : ℕ) (n : Kept) (before after : List ℕ) (ending : Option Ending) →
+pub release_ends : (old mid new : StepRun) (i : ℕ) (n : Kept) (before after : List ℕ) (ending : Option Ending) →
     after ≡ before ++ kept_line n (codes "ended") → ending ≡ ending_of n.stage n.passed → mid.lives.items ≡ remove old.lives.items i →
     mid.entries ≡ old.entries → mid.summary ≡ old.summary → mid.global_writer ≡ old.global_writer → mid.local_writer ≡ old.local_writer →
     Counts ending mid new → StepsTo (released_now i n (seen_run old)) new before after
-release_counted old mid new i n before after ending h f a b c d e k = record {
+release_ends old mid new i n before after ending h f a b c d e k = record {
   written = h;
   leaves = running_made _ _ _ _ _ _ _ _ _ _
       (ap (λ xs. map seen_live xs) (k.lives ∙ a) ∙ map-remove seen_live old.lives.items i)
@@ -88,12 +82,6 @@ release_counted old mid new i n before after ending h f a b c d e k = record {
       (k.summary ∙ ap (λ s. with_ending ending s) c ∙ ap (λ o. with_ending o old.summary) f)
       (k.global_writer ∙ d) (k.local_writer ∙ e);
 }
-
-pub release_ends : {T E : Type 0} (r : Result T E) (old mid new : StepRun) (i : ℕ) (n : Kept) (before after : List ℕ) (ending : Option Ending) →
-    after ≡ before ++ kept_line n (codes "ended") → ending ≡ ending_of n.stage n.passed → mid.lives.items ≡ remove old.lives.items i →
-    mid.entries ≡ old.entries → mid.summary ≡ old.summary → mid.global_writer ≡ old.global_writer → mid.local_writer ≡ old.local_writer →
-    OnOk r (Counts ending mid new) → OnOk r (StepsTo (released_now i n (seen_run old)) new before after)
-release_ends r old mid new i n before after ending h f a b c d e k = on_ok_weaker r (release_counted old mid new i n before after ending h f a b c d e) k
 
 -- an opening
 pub first_turn_is : (r r1 : Running) (n : Kept) (i : ℕ) (mode : Mode) → i ≡ length r.lives → r1 ≡ with_kept n r → mode ≡ n.mode →

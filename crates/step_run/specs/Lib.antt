@@ -3,3 +3,4 @@ pub mod Steps
 pub mod Running
 pub mod Views
 pub mod Lines
+pub mod Room

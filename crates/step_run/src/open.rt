@@ -1,15 +1,14 @@
 // What an opened request has to wait for, and the counts of metrics.
-ghost use Rattle.std.specs.Prelude.{◌≡◌, ◌+◌, ◌++◌, ◌&&◌, map, not, IfOk, OnOk};
+ghost use Rattle.std.specs.Prelude.{◌≡◌, ℕ, ◌+◌, ◌^◌, ◌≤◌, ◌++◌, ◌&&◌, length, map, not, slice_get, IfOk, OnOk};
 ghost use Rattle.std.specs.List.{count_by, position};
 ghost use Rattle.latch_model.specs.Latches.{has_access, in_scope};
 ghost use Rattle.latch_model.specs.Checks.{is_declared};
-ghost use Rattle.step_run.specs.Running.{count_now, counts_now, held_from, holds_now, prerequisites, stage_at_first, writes_here};
+ghost use Rattle.step_run.specs.Running.{Kept, count_now, counts_now, held_from, holds_now, prerequisites, stage_at_first, writes_here};
 ghost use Rattle.step_run.specs.Views.{seen_live};
 
 use crate::lines::{count_text, put};
 use crate::live::{Live, Stage, is_over};
-use crate::turn::one_more;
-use latch_model::latch::{Access, Latch, Mode, lies_in};
+use latch_model::latch::{Access, Latch, Latches, Mode, lies_in};
 use latch_model::prerequisites::{holds, some_conflict};
 use span_key::{Memory, Scope};
 use std::alloc::Global;
@@ -81,42 +80,48 @@ pub(crate) fn counts_text(
     writer: u64,
     out: &mut Vec<u8>,
 ) -> Result<(), Memory>
+    requires names { length lives.now ≤ 2 ^ 32 + 1 }
+    requires few { (i : ℕ) (n : Kept) → slice_get (map seen_live lives.now) i ≡ Some n → length n.latches ≤ Latches.LIMIT }
     ensures { OnOk result (out.new.items ≡ out.old.items ++ counts_now scope writer (map seen_live lives.now)) }
 {
-    count_text(b" read ", count_held(lives, scope, Access::Read, 0)?, out)?;
+    count_text(b" read ", count_held(lives, scope, Access::Read, 0), out)?;
     count_text(
         b" pending ",
-        count_held(lives, scope, Access::Read, writer)?,
+        count_held(lives, scope, Access::Read, writer),
         out,
     )?;
-    count_text(b" write ", count_held(lives, scope, Access::Write, 0)?, out)
+    count_text(b" write ", count_held(lives, scope, Access::Write, 0), out)
 }
 
 // How many latches of a scope and access are held by requests with no lower number than this.
 #[inline(never)]
-fn count_held(lives: &[Live], scope: Scope, access: Access, least: u64) -> Result<u64, Memory>
-    ensures { IfOk result (λ n. n ≡ count_now scope access (held_from least (map seen_live lives.now))) }
+fn count_held(lives: &[Live], scope: Scope, access: Access, least: u64) -> u64
+    requires names { length lives.now ≤ 2 ^ 32 + 1 }
+    requires few { (i : ℕ) (n : Kept) → slice_get (map seen_live lives.now) i ≡ Some n → length n.latches ≤ Latches.LIMIT }
+    ensures { result ≡ count_now scope access (held_from least (map seen_live lives.now)) }
 {
     let mut count = 0;
     for live in lives {
         if holds_latches(live) && least <= live.id {
-            count = add_latches(count, live.latches, scope, access)?;
+            count += count_latches(live.latches, scope, access);
         }
     }
-    Ok(count)
+    count
 }
 
-// A count with the latches of a scope and access.
-fn add_latches(before: u64, latches: &[Latch], scope: Scope, access: Access) -> Result<u64, Memory>
-    ensures { IfOk result (λ n. n ≡ before + count_by (λ l. in_scope scope l && has_access access l) latches.now) }
+// How many latches have this scope and access.
+fn count_latches(latches: &[Latch], scope: Scope, access: Access) -> u64
+    requires { length latches.now ≤ Latches.LIMIT }
+    ensures count { result ≡ count_by (λ l. in_scope scope l && has_access access l) latches.now }
+    ensures few { result ≤ Latches.LIMIT }
 {
-    let mut count = before;
+    let mut count: usize = 0;
     for latch in latches {
         if latch.span.scope() == scope && latch.access == access {
-            count = one_more(count)?;
+            count += 1;
         }
     }
-    Ok(count)
+    count as u64
 }
 
 // Whether a latch lies in some latch of a list.

@@ -1,19 +1,20 @@
 // The state of a step run, and its commands.
-ghost use Rattle.std.specs.Prelude.{◌≡◌, ◌+◌, ◌<◌, ◌++◌, length, map, slice_get, slice_set, IfOk, IfSome, OnOk};
+ghost use Rattle.std.specs.Prelude.{◌≡◌, ◌+◌, ◌^◌, ◌<◌, ◌≤◌, ◌++◌, length, map, slice_get, slice_set, IfOk, IfSome, OnOk};
 ghost use Rattle.std.specs.List.{position};
 ghost use Rattle.std.specs.Option.{option_map};
 ghost use Rattle.script.specs.Commands.{same_name};
 ghost use Rattle.step_run.specs.Running.{Kept, at_kept, blocker, check_now, decided_now, entries_of, first_turn_now, metrics_now, new_kept, on_kept};
 ghost use Rattle.step_run.specs.Running.{one_now, opened_line, opening_now, poison_now, prerequisites, released_now, start_running, stepped, turn_at};
 ghost use Rattle.step_run.specs.Running.{waited_now, with_ending, with_kept, without_check};
+ghost use Rattle.step_run.specs.Room.{FitsCounts, HasRoom};
 ghost use Rattle.step_run.specs.Views.{Counts, StepsTo, seen_held, seen_live, seen_run};
 
 use crate::lines::{opening_line, put, words_line};
 use crate::live::{Ending, Held, Live, Stage, is_met_poisoned, live_place};
 use crate::open::{counts_text, first_stage, has_write, prerequisites};
 use crate::snapshot::{list_held, meet};
-use crate::turn::{check, decide, one_more, poison, release_ending};
-use latch_model::latch::{Latch, Mode, Policy};
+use crate::turn::{check, decide, poison, release_ending};
+use latch_model::latch::{Latch, Latches, Mode, Policy};
 use report::Summary;
 use script::command::{Command, Name};
 use span_key::{Memory, Scope};
@@ -69,6 +70,7 @@ pub(crate) fn step<'s>(
     command: &'s Command,
     out: &mut Vec<u8>,
 ) -> Result<(), Memory>
+    requires { HasRoom (2 ^ 32) (seen_run run.old) }
     ensures { OnOk result (StepsTo (one_now (seen_run run.old) command.now) run.new out.old.items out.new.items) }
 {
     match command {
@@ -98,6 +100,7 @@ pub(crate) fn step<'s>(
 }
 
 fn wait(run: &mut StepRun, name: &Name, out: &mut Vec<u8>) -> Result<(), Memory>
+    requires { HasRoom (2 ^ 32 + 1) (seen_run run.old) }
     ensures { OnOk result (StepsTo (on_kept (seen_run run.old) name.now
         (λ i n. waited_now n.stage i n (seen_run run.old))) run.new out.old.items out.new.items) }
 {
@@ -113,6 +116,7 @@ fn check_latches(
     asked: &[Latch],
     out: &mut Vec<u8>,
 ) -> Result<(), Memory>
+    requires { HasRoom (2 ^ 32 + 1) (seen_run run.old) }
     ensures { OnOk result (StepsTo (on_kept (seen_run run.old) name.now
         (λ i n. stepped i (check_now n asked.now) (seen_run run.old))) run.new out.old.items out.new.items) }
 {
@@ -123,6 +127,7 @@ fn check_latches(
 }
 
 fn poison_name(run: &mut StepRun, name: &Name, out: &mut Vec<u8>) -> Result<(), Memory>
+    requires { HasRoom (2 ^ 32 + 1) (seen_run run.old) }
     ensures { OnOk result (StepsTo (on_kept (seen_run run.old) name.now
         (λ i n. stepped i (poison_now n) (seen_run run.old))) run.new out.old.items out.new.items) }
 {
@@ -133,6 +138,7 @@ fn poison_name(run: &mut StepRun, name: &Name, out: &mut Vec<u8>) -> Result<(), 
 }
 
 fn release(run: &mut StepRun, name: &Name, out: &mut Vec<u8>) -> Result<(), Memory>
+    requires { HasRoom (2 ^ 32 + 1) (seen_run run.old) }
     ensures { OnOk result (StepsTo (on_kept (seen_run run.old) name.now (λ i n. released_now i n (seen_run run.old))) run.new out.old.items out.new.items) }
 {
     match find(run, name) {
@@ -156,6 +162,8 @@ fn open<'s>(
     opening: Opening<'s>,
     out: &mut Vec<u8>,
 ) -> Result<(), Memory>
+    requires room { HasRoom (2 ^ 32) (seen_run run.old) }
+    requires few { length opening.latches.now ≤ Latches.LIMIT }
     ensures { OnOk result (StepsTo (opening_now (seen_run run.old) opening.entry.name.now opening.entry.mode opening.entry.policy opening.entry.turns
         opening.entry.latches.now) run.new out.old.items out.new.items) }
 {
@@ -176,10 +184,11 @@ fn new_live<'s>(
     opening: Opening<'s>,
     mut held_before: Vec<Held<'s>>,
 ) -> Result<Live<'s>, Memory>
+    requires { HasRoom (2 ^ 32) (seen_run run.now) }
     ensures { IfOk result (λ live. seen_live live ≡ new_kept (seen_run run.now) opening.entry.name.now opening.entry.mode opening.entry.policy
         opening.entry.turns opening.entry.latches.now) }
 {
-    let id = one_more(run.summary.begun)?;
+    let id = run.summary.begun + 1;
     list_held(run.lives.as_slice(), &mut held_before)?;
     Ok(Live {
         name: opening.name,
@@ -211,6 +220,7 @@ fn write_opening(
 
 // Counts a begin, and adds its name to the live ones.
 fn add<'s>(run: &mut StepRun<'s>, live: Live<'s>) -> Result<(), Memory>
+    requires { HasRoom (2 ^ 32) (seen_run run.old) }
     ensures run { OnOk result (seen_run run.new ≡ with_kept (seen_live live.entry) (seen_run run.old)) }
     ensures len { OnOk result (length run.new.lives.items ≡ length run.old.lives.items + 1) }
 {
@@ -218,8 +228,8 @@ fn add<'s>(run: &mut StepRun<'s>, live: Live<'s>) -> Result<(), Memory>
     let global = has_write(live.latches, Scope::Global);
     let local = has_write(live.latches, Scope::Local);
     run.lives.push(live)?;
-    run.entries = one_more(run.entries)?;
-    run.summary.begun = one_more(run.summary.begun)?;
+    run.entries += 1;
+    run.summary.begun += 1;
     run.global_writer = if global { id } else { run.global_writer };
     run.local_writer = if local { id } else { run.local_writer };
     Ok(())
@@ -227,7 +237,8 @@ fn add<'s>(run: &mut StepRun<'s>, live: Live<'s>) -> Result<(), Memory>
 
 // The first turn of the request at this place, unless it is optimistic.
 fn first_turn(run: &mut StepRun, mode: Mode, i: usize, out: &mut Vec<u8>) -> Result<(), Memory>
-    requires { i < length run.old.lives.items }
+    requires room { HasRoom (2 ^ 32 + 1) (seen_run run.old) }
+    requires inside { i < length run.old.lives.items }
     ensures { OnOk result (StepsTo (at_kept (seen_run run.old) i (slice_get (seen_run run.old).lives i)
         (λ i n. first_turn_now mode i n (seen_run run.old))) run.new out.old.items out.new.items) }
 {
@@ -239,6 +250,7 @@ fn first_turn(run: &mut StepRun, mode: Mode, i: usize, out: &mut Vec<u8>) -> Res
 
 // The line of metrics, which changes nothing.
 fn metrics(run: &StepRun, out: &mut Vec<u8>) -> Result<(), Memory>
+    requires { HasRoom (2 ^ 32 + 1) (seen_run run.now) }
     ensures { OnOk result (out.new.items ≡ out.old.items ++ metrics_now (seen_run run.now)) }
 {
     put(b"metrics global", out)?;
@@ -250,7 +262,8 @@ fn metrics(run: &StepRun, out: &mut Vec<u8>) -> Result<(), Memory>
 
 // The request at this place waits: an optimistic one gives up its check first, and one that is granted or over has nothing to wait for.
 fn wait_at(run: &mut StepRun, i: usize, out: &mut Vec<u8>) -> Result<(), Memory>
-    requires { i < length run.old.lives.items }
+    requires room { HasRoom (2 ^ 32 + 1) (seen_run run.old) }
+    requires inside { i < length run.old.lives.items }
     ensures { OnOk result (StepsTo (at_kept (seen_run run.old) i (slice_get (seen_run run.old).lives i)
         (λ i n. waited_now n.stage i n (seen_run run.old))) run.new out.old.items out.new.items) }
 {
@@ -279,7 +292,8 @@ fn give_up_check(lives: &mut Vec<Live>, i: usize)
 
 // A turn of the request at this place.
 fn take_turn(run: &mut StepRun, i: usize, out: &mut Vec<u8>) -> Result<(), Memory>
-    requires { i < length run.old.lives.items }
+    requires room { HasRoom (2 ^ 32 + 1) (seen_run run.old) }
+    requires inside { i < length run.old.lives.items }
     ensures { OnOk result (StepsTo (at_kept (seen_run run.old) i (slice_get (seen_run run.old).lives i)
         (λ i n. turn_at i n (seen_run run.old))) run.new out.old.items out.new.items) }
 {
@@ -287,7 +301,8 @@ fn take_turn(run: &mut StepRun, i: usize, out: &mut Vec<u8>) -> Result<(), Memor
     let by_poisoned = is_met_poisoned(run.lives.as_slice(), met);
     let entries = run.entries;
     let ending = decide(&mut run.lives[i], entries, by_poisoned, met, out)?;
-    end(run, ending)
+    end(run, ending);
+    Ok(())
 }
 
 // What blocks the request at this place.
@@ -301,17 +316,20 @@ fn find_blocker<'s>(lives: &[Live<'s>], i: usize) -> Option<Held<'s>>
 
 // A check of the request at this place.
 fn check_at(run: &mut StepRun, i: usize, asked: &[Latch], out: &mut Vec<u8>) -> Result<(), Memory>
-    requires { i < length run.old.lives.items }
+    requires room { HasRoom (2 ^ 32 + 1) (seen_run run.old) }
+    requires inside { i < length run.old.lives.items }
     ensures { OnOk result (StepsTo (at_kept (seen_run run.old) i (slice_get (seen_run run.old).lives i)
         (λ i n. stepped i (check_now n asked.now) (seen_run run.old))) run.new out.old.items out.new.items) }
 {
     let ending = check(&mut run.lives[i], asked, out)?;
-    end(run, ending)
+    end(run, ending);
+    Ok(())
 }
 
 // A release of the name at this place: its request ends, unless it is over.
 fn release_at(run: &mut StepRun, i: usize, out: &mut Vec<u8>) -> Result<(), Memory>
-    requires { i < length run.old.lives.items }
+    requires room { HasRoom (2 ^ 32 + 1) (seen_run run.old) }
+    requires inside { i < length run.old.lives.items }
     ensures { OnOk result (StepsTo (at_kept (seen_run run.old) i (slice_get (seen_run run.old).lives i)
         (λ i n. released_now i n (seen_run run.old))) run.new out.old.items out.new.items) }
 {
@@ -319,33 +337,37 @@ fn release_at(run: &mut StepRun, i: usize, out: &mut Vec<u8>) -> Result<(), Memo
     words_line(live.name, b"ended", out)?;
     let ending = release_ending(live.stage, live.passed);
     run.spare.push(live.held_before)?;
-    end(run, ending)
+    end(run, ending);
+    Ok(())
 }
 
 // A poisoning of the request at this place.
 fn poison_at(run: &mut StepRun, i: usize, out: &mut Vec<u8>) -> Result<(), Memory>
-    requires { i < length run.old.lives.items }
+    requires room { HasRoom (2 ^ 32 + 1) (seen_run run.old) }
+    requires inside { i < length run.old.lives.items }
     ensures { OnOk result (StepsTo (at_kept (seen_run run.old) i (slice_get (seen_run run.old).lives i)
         (λ i n. stepped i (poison_now n) (seen_run run.old))) run.new out.old.items out.new.items) }
 {
     let ending = poison(&mut run.lives[i], out)?;
-    end(run, ending)
+    end(run, ending);
+    Ok(())
 }
 
 // Counts an end, if there is one.
-fn end(run: &mut StepRun, ending: Option<Ending>) -> Result<(), Memory>
-    ensures { OnOk result (Counts ending run.old run.new) }
+fn end(run: &mut StepRun, ending: Option<Ending>)
+    requires entries { run.old.entries ≤ 2 ^ 32 + 1 }
+    requires counts { FitsCounts (2 ^ 32 + 1) run.old.summary }
+    ensures { Counts ending run.old run.new }
 {
     let Some(ending) = ending else {
-        return Ok(());
+        return;
     };
-    run.entries = one_more(run.entries)?;
+    run.entries += 1;
     match ending {
-        Ending::Granted => run.summary.granted = one_more(run.summary.granted)?,
-        Ending::Checked => run.summary.checked = one_more(run.summary.checked)?,
-        Ending::Poisoned => run.summary.poisoned = one_more(run.summary.poisoned)?,
-        Ending::Cancelled => run.summary.cancelled = one_more(run.summary.cancelled)?,
-        Ending::Never => run.summary.never = one_more(run.summary.never)?,
+        Ending::Granted => run.summary.granted += 1,
+        Ending::Checked => run.summary.checked += 1,
+        Ending::Poisoned => run.summary.poisoned += 1,
+        Ending::Cancelled => run.summary.cancelled += 1,
+        Ending::Never => run.summary.never += 1,
     }
-    Ok(())
 }

@@ -1,5 +1,5 @@
 // What a turn, a check, a poisoning and a release do to a live name.
-ghost use Rattle.std.specs.Prelude.{◌≡◌, ◌+◌, ◌++◌, OnOk, IfOk};
+ghost use Rattle.std.specs.Prelude.{◌≡◌, ◌+◌, ◌^◌, ◌≤◌, ◌++◌, OnOk, IfOk};
 ghost use Rattle.std.specs.Option.{option_map};
 ghost use Rattle.step_run.specs.Running.{blocked_by, blocked_now, check_now, checked_against, decided_if, ending_of, granted_now, poison_now, spent};
 ghost use Rattle.step_run.specs.Running.{spread_now, with_poison};
@@ -20,6 +20,7 @@ pub(crate) fn decide(
     met: Option<Held>,
     out: &mut Vec<u8>,
 ) -> Result<Option<Ending>, Memory>
+    requires { live.old.counted ≤ 2 ^ 32 + 1 }
     ensures { IfOk result (λ ending. TurnsTo (decided_if (seen_live live.old) entries by_poisoned
         (option_map seen_held met.entry)) live.new out.old.items out.new.items ending) }
 {
@@ -53,6 +54,7 @@ fn block_by(
     by_poisoned: bool,
     out: &mut Vec<u8>,
 ) -> Result<Option<Ending>, Memory>
+    requires { live.old.counted ≤ 2 ^ 32 + 1 }
     ensures { IfOk result (λ ending. TurnsTo (blocked_by by_poisoned (seen_live live.old) (seen_held x.entry)) live.new out.old.items out.new.items ending) }
 {
     if !by_poisoned {
@@ -142,16 +144,6 @@ pub(crate) fn release_ending(stage: Stage, passed: bool) -> Option<Ending>
     }
 }
 
-/// One more, unless the count has no room, which takes more entries than memory can hold.
-pub(crate) fn one_more(n: u64) -> Result<u64, Memory>
-    ensures { IfOk result (λ m. m ≡ n + 1) }
-{
-    match n.checked_add(1) {
-        Some(m) => Ok(m),
-        None => Err(Memory),
-    }
-}
-
 // The poison of a request that is waited for spreads to one without a cause.
 fn spread(live: &mut Live, by: u64, out: &mut Vec<u8>) -> Result<(), Memory>
     ensures written { OnOk result (out.new.items ≡ out.old.items ++ spread_now (seen_live live.old) by) }
@@ -166,6 +158,7 @@ fn spread(live: &mut Live, by: u64, out: &mut Vec<u8>) -> Result<(), Memory>
 
 // A turn that doesn't end the wait is spent.
 fn block(live: &mut Live, x: Held, out: &mut Vec<u8>) -> Result<Option<Ending>, Memory>
+    requires { live.old.counted ≤ 2 ^ 32 + 1 }
     ensures { IfOk result (λ ending. TurnsTo (blocked_now (seen_live live.old) (seen_held x.entry)) live.new out.old.items out.new.items ending) }
 {
     latch_line(live.name, b"blocked ", x, out)?;
@@ -174,14 +167,14 @@ fn block(live: &mut Live, x: Held, out: &mut Vec<u8>) -> Result<Option<Ending>, 
 
 // A spent turn is counted where the request has a number of turns; at the last of them it is cancelled.
 fn spend(live: &mut Live, out: &mut Vec<u8>) -> Result<Option<Ending>, Memory>
+    requires { live.old.counted ≤ 2 ^ 32 + 1 }
     ensures { IfOk result (λ ending. TurnsTo (spent (seen_live live.old) live.old.turns) live.new out.old.items out.new.items ending) }
 {
     let Some(turns) = live.turns else {
         return Ok(None);
     };
-    let counted = one_more(live.counted)?;
-    live.counted = counted;
-    if counted != u64::from(turns) {
+    live.counted += 1;
+    if live.counted != u64::from(turns) {
         return Ok(None);
     }
     words_line(live.name, b"cancelled", out)?;

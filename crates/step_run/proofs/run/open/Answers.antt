@@ -1,7 +1,9 @@
-use Rattle.std.proofs.Common.{◌≡◌, ◌++◌, length, map, refl, sym, ap, ◌∙◌, arith}
+use Rattle.std.proofs.Common.{◌≡◌, ◌++◌, length, map, ◌+◌, ◌^◌, refl, sym, ap, ◌∙◌, subst, arith}
 use Rattle.std.proofs.lemmas.List.{length-map}
 use Rattle.step_run.specs.Running.{new_kept, opened_line, prerequisites}
+use Rattle.step_run.specs.Room.{FitsName, HasRoom}
 use Rattle.step_run.specs.Views.{seen_live, seen_run}
+use Rattle.step_run.proofs.Room.{begun_room}
 use Rattle.step_run.proofs.Seeing.{opening_steps}
 use Rattle.step_run.proofs.run.open.Goals as goal
 
@@ -21,3 +23,10 @@ returns c =
     (c.in_ok-write_opening.ensures ∙ ap (λ xs. c.args.out.now.items ++ opened_line (seen_live live)
     (prerequisites (map seen_live xs) live.latches.now)) c.as_slice.ensures.value)
     c.first_turn.ensures
+
+pub first_turn-requires-clause-room : goal.first_turn-requires-clause-room
+first_turn-requires-clause-room c =
+    let live = c.in_ok-live.live in
+    let fits : FitsName (2 ^ 32 + 1) (seen_live live) =
+    subst (λ k. FitsName (2 ^ 32 + 1) k) (sym c.in_ok-live.ensures) (record { turns = omega arith; latches = c.requires.few }) in
+    subst (λ r. HasRoom (2 ^ 32 + 1) r) (sym c.in_ok-add.ensures.run) (begun_room (2 ^ 32) (seen_live live) (seen_run c.args.run.now) fits c.requires.room)

@@ -1,4 +1,4 @@
-use Rattle.std.proofs.Common.{◌≡◌, Some, map, refl, sym, subst, OnOk}
+use Rattle.std.proofs.Common.{◌≡◌, Some, map, refl, sym, subst}
 use Rattle.std.specs.Prelude.{slice_get}
 use Rattle.std.specs.Option.{option_map}
 use Rattle.step_run.specs.Running.{Kept, blocker, poisoned_met, turn_at, turn_now}
@@ -17,11 +17,17 @@ returns c =
     option_map seen_held met ≡ blocker n (map seen_live ys)) c.as_slice.ensures.value c.find_blocker-met.ensures in
     let spread = subst (λ ys. c.is_met_poisoned-by_poisoned.result ≡ poisoned_met (map seen_live ys)
     (option_map seen_held met)) c.as_slice-2.ensures.value c.is_met_poisoned-by_poisoned.ensures in
-    subst (λ s. OnOk c.end.result (StepsTo s c.end.new.run c.args.out.now.items c.decide.new.out.items))
-    (sym (at_place_is (seen_run run) xs i x (λ i n. turn_at i n (seen_run run)) c.index_mut.ensures.value c.requires))
-    (turn_ends c.end.result run _ c.end.new.run i (turn_now (seen_live x) run.entries
+    subst (λ s. StepsTo s c.end.new.run c.args.out.now.items c.decide.new.out.items)
+    (sym (at_place_is (seen_run run) xs i x (λ i n. turn_at i n (seen_run run)) c.index_mut.ensures.value c.requires.inside))
+    (turn_ends run _ c.end.new.run i (turn_now (seen_live x) run.entries
     (map seen_live xs)) c.decide.new.live c.args.out.now.items c.decide.new.out.items c.in_ok-ending.ending
     (subst (λ t. TurnsTo t c.decide.new.live c.args.out.now.items c.decide.new.out.items c.in_ok-ending.ending)
     (turn_is (seen_live x) run.entries (map seen_live xs) c.is_met_poisoned-by_poisoned.result (option_map seen_held met) spread
-    (known (seen_live x) (seen_get xs i x c.index_mut.ensures.value c.requires)))
+    (known (seen_live x) (seen_get xs i x c.index_mut.ensures.value c.requires.inside)))
     c.in_ok-ending.ensures) refl refl refl refl refl c.end.ensures)
+
+pub decide-requires : goal.decide-requires
+decide-requires c =
+    let x = c.index_mut.result.now in
+    let fits = c.requires.room.each c.args.i (seen_live x) (seen_get c.args.run.now.lives.items c.args.i x c.index_mut.ensures.value c.requires.inside) in
+    fits.turns

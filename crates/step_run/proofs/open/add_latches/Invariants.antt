@@ -1,9 +1,0 @@
-use Rattle.std.proofs.Common.{◌≡◌, ◌+◌, ◌&&◌, take}
-use Rattle.std.specs.List.{count_by}
-use Rattle.latch_model.specs.Latches.{has_access, in_scope}
-use Rattle.latch_model.specs.declared.latch.Latch.{Latch}
-use Rattle.step_run.proofs.open.add_latches.Given as goal
-
-abbrev pub invariant-loop-latch : goal.invariant-loop-latch
-invariant-loop-latch l =
-    l.count ≡ l.before + count_by (λ (x : Latch). in_scope l.scope x && has_access l.access x) (take l.latch-index l.latches)
