@@ -25,7 +25,8 @@ pub reachable-as : (P : ℕ → Type 0) (v : SeatView) (r : ℕ) → OwnsOrReach
 reachable-as P v r (inl t) = inl (t.0, t.1, t.2)
 reachable-as P v r (inr e) = inr (e.0, e.1)
 
-pub good-still : {S : Type 0} {table next : TableId} {me now : Me S SeatView} → SeatInvariant table me → next ≡ table → Unchanged me now → SeatInvariant next now
+pub good-still : {S : Type 0} {table next : TableId} {me now : Me S SeatView} → SeatInvariant table me → next ≡ table → Unchanged me now
+    → SeatInvariant next now
 good-still h same s = record {
   empty = s.kept ∙ h.empty;
   words = let a = ap (λ (t : TableId). t.words) same in let b = h.words in let c = s.size in omega arith;
@@ -34,13 +35,16 @@ good-still h same s = record {
 }
 
 -- the seat fits the pool, and a word of a row that it is near to is in it
-pub at-word : {S : Type 0} {table pool : TableId} {me : Me S SeatView} → SeatInvariant table me → table ≡ pool → (r w j : ℕ) → OwnsOrReaches me.0 r → w < 80 → j ≡ r * 80 + w
+pub at-word : {S : Type 0} {table pool : TableId} {me : Me S SeatView} → SeatInvariant table me → table ≡ pool → (r w j : ℕ) → OwnsOrReaches me.0 r
+    → w < 80 → j ≡ r * 80 + w
     → j < pool.words
-at-word {me = me} h same r w j reachable low place = let a = ap (λ (t : TableId). t.words) same in let b = reachable-inside me.0 r h.sound reachable in let c = h.words in
+at-word {me = me} h same r w j reachable low place = let a = ap (λ (t : TableId). t.words) same in let b = reachable-inside me.0 r h.sound reachable in
+    let c = h.words in
     omega arith
 
 -- a counted link is one of the row's words
-pub link-low : (v : SeatView) (r k : ℕ) (e : Entry) (l : Link) → ViewInvariant v → find r v.owned ≡ some e → get_elem? e.links k ≡ some l → first_link e.kind + k < 80
+pub link-low : (v : SeatView) (r k : ℕ) (e : Entry) (l : Link) → ViewInvariant v → find r v.owned ≡ some e → get_elem? e.links k ≡ some l
+    → first_link e.kind + k < 80
 link-low v r k e l h has is = let a = at-length e.links k l is in let b = (h.rows r e has).many in let f = fan-most e.kind in omega arith
 
 pub named-most : (v : SeatView) (u : Tree) → ViewInvariant v → Reaches v u → tree_word u ≤ 4194304
@@ -96,7 +100,8 @@ follow-first v r w (inl t) = let f = fan-most (kind_of t.0) in let a = t.3.0 in 
 follow-first v r w (inr e) = let f = fan-most e.0.kind in let a = e.2.0 in omega arith
 
 -- what a live row's counted link holds
-pub link-value : (v : SeatView) (t u : Tree) (w k : ℕ) → ViewInvariant v → Reaches v t → 0 < tree_word t → w ≡ first_link (kind_of t) + k → get_elem? (children t) k ≡ some u
+pub link-value : (v : SeatView) (t u : Tree) (w k : ℕ) → ViewInvariant v → Reaches v t → 0 < tree_word t → w ≡ first_link (kind_of t) + k
+    → get_elem? (children t) k ≡ some u
     → slice_index (words_of t) w ≡ tree_word u
 link-value v t u w k h up is place at = ap (slice_index (words_of t)) place ∙ (h.trees t up is).links k u at
 

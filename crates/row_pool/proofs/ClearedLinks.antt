@@ -98,7 +98,8 @@ gathers-start t r old c away =
     }
 
 -- a link was cleared, and what it led to was dropped
-pub gathers-next : (t : Tree) (r k : ℕ) (old v w : SeatView) (u : Tree) (c d d2 : Chain) (h : LinksCleared t r k old v) → 0 < kind_of t → OwnsMoreBeside r old v c d
+pub gathers-next : (t : Tree) (r k : ℕ) (old v w : SeatView) (u : Tree) (c d d2 : Chain) (h : LinksCleared t r k old v) → 0 < kind_of t
+    → OwnsMoreBeside r old v c d
     → ChainGrows (relinked r h.entry k u nil v) w d d2 → OwnsMoreBeside r old w c d2
 gathers-next t r k old v w u c d d2 h kind g x =
     let mid : SeatView = relinked r h.entry k u nil v in
@@ -110,7 +111,12 @@ gathers-next t r k old v w u c d d2 h kind g x =
     let new_apart : (q : ℕ) → mem q x.more ≡ true → q ≢ r = λ q m z. some-ne-none e (sym has ∙ ap (λ r. find r mid.owned) (sym z) ∙ x.owns_more.fresh q m) in
     record {
       more = x.more ++ g.more;
-      same_seat = record { number = x.owns_more.same_seat.number ∙ g.same_seat.number; out = x.owns_more.same_seat.out ∙ g.same_seat.out; size = x.owns_more.same_seat.size ∙ g.same_seat.size };
+      same_seat = record {
+        number = x.owns_more.same_seat.number ∙ g.same_seat.number;
+        out = x.owns_more.same_seat.out
+            ∙ g.same_seat.out;
+        size = x.owns_more.same_seat.size ∙ g.same_seat.size;
+      };
       fresh = λ q m. ⊎_elim
           (λ a. let none_mid : find q v.owned ≡ none = sym (others q (new_apart q a)) ∙ x.owns_more.fresh q a in
           ⊎_elim (λ b. let o = g.came q b in absurd (some-ne-none o.0 (sym o.1 ∙ none_mid))) (λ b. sym (g.same q (new_apart q a) b)
@@ -134,13 +140,15 @@ pub others : (r : ℕ) (a b : Entry) (v : SeatView) (q : ℕ) → q ≢ r → fi
 others r a b v q n = sym (find-put q r a v.owned n ∙ find-put q r b (with_entry r a v).owned n)
 
 -- the same where the row has gone free
-pub chain-after : (t : Tree) (r k : ℕ) (old v : SeatView) (a b : Entry) (d : Chain) (rs : List ℕ) (h : LinksCleared t r k old v) → 0 < kind_of t → IsChain v d rs
+pub chain-after : (t : Tree) (r k : ℕ) (old v : SeatView) (a b : Entry) (d : Chain) (rs : List ℕ) (h : LinksCleared t r k old v) → 0 < kind_of t
+    → IsChain v d rs
     → IsChain (with_entry r b (with_entry r a v)) d rs
 chain-after t r k old v a b d rs h kind s = chain-aside v (with_entry r b (with_entry r a v)) r d rs (others r a b v)
     (λ f o. let z = ap (λ (e : Entry). e.kind) (some-injective h.entry f (sym h.has ∙ o)) in let y = h.kind in omega arith) s
 
 -- the row goes free and into the chain
-pub gathers-end : (t : Tree) (r k : ℕ) (old v w : SeatView) (c d d2 : Chain) (h : LinksCleared t r k old v) (e : Entry) → 0 < kind_of t → find r old.owned ≡ none
+pub gathers-end : (t : Tree) (r k : ℕ) (old v w : SeatView) (c d d2 : Chain) (h : LinksCleared t r k old v) (e : Entry) → 0 < kind_of t
+    → find r old.owned ≡ none
     → OwnsMoreBeside r old v c d
     → SameSeat v w → ((q : ℕ) → q ≢ r → find q w.owned ≡ find q v.owned) → find r w.owned ≡ some e → e.kind ≡ 0
     → ((rs : List ℕ) → IsChain w d rs → IsChain w d2 (r ∷ rs)) → ChainGrows old w c d2
@@ -166,7 +174,13 @@ gathers-end t r k old v w c d d2 h e kind away g same_seat others has free pushe
 pub grows-none : (v w : SeatView) (c : Chain) → w.owned ≡ v.owned → SameSeat v w → ChainGrows v w c c
 grows-none v w c owned same_seat = record {
   more = [];
-  owns_more = record { same_seat = same_seat; fresh = λ q m. absurd (true≢false (sym m)); came = λ q m. absurd (true≢false (sym m)); same = λ q _. ap (find q) owned };
+  owns_more = record {
+    same_seat = same_seat;
+    fresh = λ q m. absurd (true≢false (sym m));
+    came = λ q m. absurd (true≢false (sym m));
+    same = λ q _. ap
+        (find q) owned;
+  };
   chain = λ rs h. chain-on v w c rs (λ q _. ap (find q) owned) h;
 }
 

@@ -131,7 +131,8 @@ kids-in (next t ts) r h = ⊎_elim (λ a. in-left r (rows_in t) (rows_of ts) a) 
 abbrev pub Within : SeatView → SeatView → Type 0
 Within w v = (r : ℕ) → In r (rows_of_view w) → In r (rows_of_view v)
 
-parts : (v w : SeatView) → ((r : ℕ) → In r (concat_map rows_in w.refs) → In r (rows_of_view v)) → ((r : ℕ) → In r (concat_map entry_rows w.owned) → In r (rows_of_view v)) → Within w v
+parts : (v w : SeatView) → ((r : ℕ) → In r (concat_map rows_in w.refs) → In r (rows_of_view v)) → ((r : ℕ) → In r (concat_map entry_rows w.owned)
+    → In r (rows_of_view v)) → Within w v
 parts v w a b = λ r h. ⊎_elim (a r) (b r) (in-append r (concat_map rows_in w.refs) (concat_map entry_rows w.owned) h)
 
 old-refs : (v : SeatView) (r : ℕ) → In r (concat_map rows_in v.refs) → In r (rows_of_view v)
@@ -141,7 +142,8 @@ old-owned : (v : SeatView) (r : ℕ) → In r (concat_map entry_rows v.owned) �
 old-owned v r h = in-right r (concat_map rows_in v.refs) (concat_map entry_rows v.owned) h
 
 pub within-hold : (v : SeatView) (t : Tree) → Reaches v t → Within (with_ref t v) v
-within-hold v t up = parts v (with_ref t v) (λ r h. ⊎_elim (in-reached v t r up) (old-refs v r) (in-append r (rows_in t) (concat_map rows_in v.refs) h)) (old-owned v)
+within-hold v t up = parts v (with_ref t v) (λ r h. ⊎_elim (in-reached v t r up) (old-refs v r) (in-append r (rows_in t) (concat_map rows_in v.refs) h))
+    (old-owned v)
 
 pub within-lower : (v : SeatView) (q : ℕ) → Within (without_ref q v) v
 within-lower v q = parts v (without_ref q v) (λ r h. old-refs v r (take-in r q v.refs h)) (old-owned v)
@@ -204,7 +206,8 @@ pub within-linked : (v : SeatView) (q : ℕ) (e : Entry) (k b : ℕ) (from goal 
     → (0 < tree_word goal → get_elem? v.refs b ≡ some goal)
     → Within (relinked q e k from goal v) v
 within-linked v q e k b from goal has is ref = parts v (relinked q e k from goal v)
-    (λ r h. ⊎_elim (λ a. in-reached v from r (by_link q e k has is) a) (λ c. old-refs v r (hand-in goal v.refs r c)) (back-in from (without_target goal v.refs) r h))
+    (λ r h. ⊎_elim (λ a. in-reached v from r (by_link q e k has is) a) (λ c. old-refs v r (hand-in goal v.refs r c)) (back-in from
+    (without_target goal v.refs) r h))
     (λ r h. ⊎_elim
     (λ a. ⊎_elim (λ (z : q ≡ r). old-owned v r (in-owned v.owned q e r has (rw (eq-eqb q r z) refl)))
     (λ c. ⊎_elim (target-in v goal b r ref) (within-links v q e has r) (set-links e.links k (Link.to goal) r c))
@@ -212,7 +215,8 @@ within-linked v q e k b from goal has is ref = parts v (relinked q e k from goal
     (λ c. old-owned v r (without-in r q v.owned c)) (in-append r (entry_rows (q, with_link k (Link.to goal) e)) (concat_map entry_rows (without q v.owned)) h))
 
 -- an owned row that goes live has its own row, and what its links name
-tree-in : (t : Tree) (q r : ℕ) (us : List Tree) → tree_word t ≡ suc q → children t ≡ us → In r (rows_in t) → (q ≡ r) ⊎ In r (concat_map link_rows (map Link.to us))
+tree-in : (t : Tree) (q r : ℕ) (us : List Tree) → tree_word t ≡ suc q → children t ≡ us → In r (rows_in t)
+    → (q ≡ r) ⊎ In r (concat_map link_rows (map Link.to us))
 tree-in nil q r us is beneath h = absurd (omega arith)
 tree-in (row p ws ts) q r us is beneath h = ⊎_elim (λ (z : p ≡ r). inl (omega arith))
     (λ b. inr (subst (λ us. In r (concat_map link_rows (map Link.to us))) beneath (kids-out ts r b))) (in-head r p (rows_of ts) h)
@@ -231,7 +235,8 @@ within-published v q e us t has links b = parts v (published q t v)
     (λ r h. old-owned v r (without-in r q v.owned h))
 
 -- the entry of a live row that a seat reaches, once it is owned
-pub within-seize-link : (v : SeatView) (t : Tree) (r q k : ℕ) (d : Entry) → tree_word t ≡ suc r → find q v.owned ≡ some d → get_elem? d.links k ≡ some (Link.to t)
+pub within-seize-link : (v : SeatView) (t : Tree) (r q k : ℕ) (d : Entry) → tree_word t ≡ suc r → find q v.owned ≡ some d
+    → get_elem? d.links k ≡ some (Link.to t)
     → Within (own_linked_row t r q k d v) v
 within-seize-link v t r q k d is_r has is = parts v (own_linked_row t r q k d v) (old-refs v)
     (λ p h. ⊎_elim

@@ -58,13 +58,15 @@ caps-splits n views i v rs at first size h caps a b x y cap e one f two found =
     → row_count n y ≤ cap) views i (remaining rs v) (λ two _. let z : (remaining rs v).number ≡ 1 = first in absurd (omega arith))
     (λ b u ne o two found. let l = listed-in views h i b v u at first o two in let less = found-less v.out u.number l.0 l.1 in
     caps i b v u cap at first o two (rw (ne_eqb (next_number v.out) u.number (λ z. omega arith)) at found)) b y g two there)
-    (λ (g : split_off rs v ≡ y). subst (λ (y : SeatView). find y.number ((next_number v.out, row_count v.size (split_off rs v)) ∷ v.out) ≡ some cap → row_count n y ≤ cap) g
+    (λ (g : split_off rs v ≡ y). subst (λ (y : SeatView). find y.number ((next_number v.out, row_count v.size (split_off rs v)) ∷ v.out) ≡ some cap
+    → row_count n y ≤ cap) g
     (λ found. let z : row_count v.size (split_off rs v) ≡ cap = some-injective (row_count v.size (split_off rs v)) cap
     (rw (eq-eqb (next_number v.out) (next_number v.out) refl) at found) in
     let w : row_count n (split_off rs v) ≡ row_count v.size (split_off rs v) = ap (λ n. row_count n (split_off rs v)) (sym size) in omega arith) there)
     (at_snoc (set views i (remaining rs v)) (split_off rs v) y b f)
 
-pub caps-joins : (n : ℕ) (views : List SeatView) (i k : ℕ) (v w : SeatView) → get_elem? views i ≡ some v → v.number ≡ 1 → get_elem? views k ≡ some w → 2 ≤ w.number
+pub caps-joins : (n : ℕ) (views : List SeatView) (i k : ℕ) (v w : SeatView) → get_elem? views i ≡ some v → v.number ≡ 1 → get_elem? views k ≡ some w
+    → 2 ≤ w.number
     → NumbersHold (map numbering views) → CapsHold n views
     → CapsHold n (set (set views i (joined v w)) k spent)
 caps-joins n views i k v w at first at_k other h caps a b x y cap e one f two found =
@@ -119,7 +121,8 @@ covered {n = n} {s = s} c i v at first =
     (λ j w ne e. (
       λ z. let o = (c.counted.fits j w e).spent z in card-none n w o.0 o.1,
       λ low.
-          let not_first : w.number ≢ 1 = λ z. ne (c.numbers.apart j i (numbering w) (numbering v) (at_map numbering s.views j w e) (at_map numbering s.views i v at) low (z
+          let not_first : w.number ≢ 1 = λ z. ne (c.numbers.apart j i (numbering w) (numbering v) (at_map numbering s.views j w e)
+          (at_map numbering s.views i v at) low (z
           ∙ sym first)) in
           let l = listed-in s.views c.numbers i j v w at first e (omega arith) in (l.0, l.1, c.caps i j v w l.0 at first e (omega arith) l.1),
     )) in

@@ -35,7 +35,8 @@ item-shallow : (v : SeatView) (t : Tree) → ViewInvariant v → Reaches v t →
 item-shallow v nil h up is = omega arith
 item-shallow v (row r ws ks) h up is = let s = h.trees (row r ws ks) up (omega arith) in let z = no-kids ks (s.many ∙ ap link_count is) in omega arith
 
-pub leaf-depths : (v : SeatView) (t : Tree) (m : ℕ) → ViewInvariant v → Reaches v t → kind_of t ≡ 1 → (k : ℕ) (u : Tree) → get_elem? (t ∷ replicate m nil) k ≡ some u
+pub leaf-depths : (v : SeatView) (t : Tree) (m : ℕ) → ViewInvariant v → Reaches v t → kind_of t ≡ 1 → (k : ℕ) (u : Tree)
+    → get_elem? (t ∷ replicate m nil) k ≡ some u
     → depth u ≤ 3
 leaf-depths v t m h up is = each_cons (λ _ u. depth u ≤ 3) t (replicate m nil) (let a = item-shallow v t h up is in omega arith) (none-deep m)
   where
@@ -45,7 +46,8 @@ leaf-depths v t m h up is = each_cons (λ _ u. depth u ≤ 3) t (replicate m nil
     none-deep (suc m) (suc k) u e = none-deep m k u e
 
 -- a row was popped, made a node, linked and published
-pub linked-made : (v w x y z : SeatView) (r : ℕ) (e : Entry) (t u : Tree) (ts : List Tree) (i : ℕ) → w ≡ v → OnlyEntryChanges r w x → v.refs ≡ t ∷ ts → tree_word t ≡ suc i
+pub linked-made : (v w x y z : SeatView) (r : ℕ) (e : Entry) (t u : Tree) (ts : List Tree) (i : ℕ) → w ≡ v → OnlyEntryChanges r w x → v.refs ≡ t ∷ ts
+    → tree_word t ≡ suc i
     → y ≡ relinked r e 0 nil t x → z ≡ published r u y
     → (z.refs ≡ u ∷ ts) × ((q : ℕ) → q ≢ r → find q z.owned ≡ find q v.owned) × (find r z.owned ≡ none) × SameSeat v z
 linked-made v w x y z r e t u ts i a o refs is b d =

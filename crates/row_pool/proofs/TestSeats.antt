@@ -38,7 +38,8 @@ stand-held p s n c t ts rs h table move = record {
   all = λ q e f. h.all q e (sym (ap (λ (v : SeatView). find q v.owned) move) ∙ f);
 }
 
-pub stand-dropped : (p : TableId) (s n : SeatState) (c d : Chain) (r : ℕ) (t : Tree) (ts : List Tree) (rs : List ℕ) → tree_word t ≡ suc r → Holding p s c (t ∷ ts) rs
+pub stand-dropped : (p : TableId) (s n : SeatState) (c d : Chain) (r : ℕ) (t : Tree) (ts : List Tree) (rs : List ℕ) → tree_word t ≡ suc r
+    → Holding p s c (t ∷ ts) rs
     → n.table ≡ s.table → n.view.refs ≡ without_tree r s.view.refs → ChainGrows s.view n.view c d
     → (us : List ℕ) × Holding p n d ts us
 stand-dropped p s n c d r t ts rs is h table refs g = (
@@ -58,12 +59,14 @@ pub stand-turned : (p : TableId) (s n : SeatState) (c d : Chain) (r : ℕ) (ts u
 stand-turned p s n c d r ts us rs h on table refs others gone = record {
   table = table ∙ h.table;
   refs = refs;
-  chain = chain-on s.view n.view d rs (λ q m. others q (λ z. true≢false (sym m ∙ ap (λ q. mem q rs) z ∙ strung-apart s.view r rs c.head h.chain.linked_from))) on;
+  chain = chain-on s.view n.view d rs (λ q m. others q (λ z. true≢false (sym m ∙ ap (λ q. mem q rs) z
+      ∙ strung-apart s.view r rs c.head h.chain.linked_from))) on;
   all = λ q e f. ⊎_elim (λ (z : q ≡ r). absurd (some-ne-none e (sym f ∙ ap (λ q. find q n.view.owned) z ∙ gone)))
       (λ ne. ⊎_elim (λ z. absurd (ne (sym z))) (λ o. o.1) (mem-head q r rs (h.all q e (sym (others q ne) ∙ f)))) (same_or q r);
 }
 
-pub stand-made : (p : TableId) (s n : SeatState) (c d : Chain) (r : ℕ) (t : Tree) (ts : List Tree) (rs : List ℕ) → Holding p s c ts (r ∷ rs) → IsChain s.view d rs
+pub stand-made : (p : TableId) (s n : SeatState) (c d : Chain) (r : ℕ) (t : Tree) (ts : List Tree) (rs : List ℕ) → Holding p s c ts (r ∷ rs)
+    → IsChain s.view d rs
     → n.table ≡ s.table → n.view.refs ≡ t ∷ s.view.refs
     → ((q : ℕ) → q ≢ r → find q n.view.owned ≡ find q s.view.owned) → find r n.view.owned ≡ none → Holding p n d (t ∷ ts) rs
 stand-made p s n c d r t ts rs h on table refs others gone = stand-turned p s n c d r ts (t ∷ ts) rs h on table (refs ∙ ap (λ ts. t ∷ ts) h.refs) others gone
@@ -89,7 +92,8 @@ pub own-whole : (v : SeatView) (t : Tree) → ViewInvariant v → Reaches v t �
 own-whole v t h up some_row = let s = h.trees t up some_row in let low = s.shallow in (s.some_kind, λ k u e. let a = depth-below t u k e in omega arith)
 
 -- a row that was referred to goes live again
-pub stand-again : (p : TableId) (s n : SeatState) (c : Chain) (r : ℕ) (t u : Tree) (ts : List Tree) (rs : List ℕ) → tree_word t ≡ suc r → find r s.view.owned ≡ none
+pub stand-again : (p : TableId) (s n : SeatState) (c : Chain) (r : ℕ) (t u : Tree) (ts : List Tree) (rs : List ℕ) → tree_word t ≡ suc r
+    → find r s.view.owned ≡ none
     → Holding p s c (t ∷ ts) rs → n.table ≡ s.table
     → n.view ≡ published r u (own_row t r 1 s.view) → Holding p n c (u ∷ ts) rs
 stand-again p s n c r t u ts rs is away h table move =
@@ -150,12 +154,14 @@ stand-joined p s o m n c e d ts rs us h g table table' move a on = record {
 -- the rows of two seats that are joined are apart
 pub rows-apart : (v w : SeatView) (c e : Chain) (rs us : List ℕ) → IsChain v c rs → IsChain w e us
     → ((r : ℕ) (d : Entry) → find r w.owned ≡ some d → find r v.owned ≡ none) → Disjoint us rs
-rows-apart v w c e rs us h g apart = λ q i. ⊎_elim (λ m. let o = strung-free v rs c.head q h.linked_from m in let u = strung-free w us e.head q g.linked_from i in
+rows-apart v w c e rs us h g apart = λ q i. ⊎_elim (λ m. let o = strung-free v rs c.head q h.linked_from m in
+    let u = strung-free w us e.head q g.linked_from i in
     absurd (some-ne-none o.0 (sym o.1 ∙ apart q u.0 u.1))) (λ o. o) (mem-or q rs)
 
 -- a chain of the first seat's after a join, and one of the other's
 pub chain-first : (v w : SeatView) (c : Chain) (rs : List ℕ) → IsChain v c rs → IsChain (joined v w) c rs
-chain-first v w c rs h = chain-on v (joined v w) c rs (λ q m. let o = strung-free v rs c.head q h.linked_from m in once-first q v.owned w.owned o.0 o.1 ∙ sym o.1) h
+chain-first v w c rs h = chain-on v (joined v w) c rs (λ q m. let o = strung-free v rs c.head q h.linked_from m in once-first q v.owned w.owned o.0 o.1
+    ∙ sym o.1) h
 
 pub chain-second : (v w n : SeatView) (c : Chain) (us : List ℕ) → IsChain w c us → ((r : ℕ) (d : Entry) → find r w.owned ≡ some d → find r n.owned ≡ some d)
     → IsChain n c us
@@ -172,7 +178,8 @@ stand-fresh p s c n rs table move on all = record {
 }
 
 -- a reference went to a new seat
-pub stand-split : (p : TableId) (s n : SeatState) (c : Chain) (r : ℕ) (t : Tree) (ts : List Tree) (rs : List ℕ) → tree_word t ≡ suc r → Holding p s c (t ∷ ts) rs
+pub stand-split : (p : TableId) (s n : SeatState) (c : Chain) (r : ℕ) (t : Tree) (ts : List Tree) (rs : List ℕ) → tree_word t ≡ suc r
+    → Holding p s c (t ∷ ts) rs
     → n.table ≡ s.table → n.view ≡ remaining (r ∷ []) s.view → Holding p n c ts rs
 stand-split p s n c r t ts rs is h table move = record {
   table = table ∙ h.table;
@@ -181,7 +188,8 @@ stand-split p s n c r t ts rs is h table move = record {
   all = λ q e f. h.all q e (sym (ap (λ (v : SeatView). find q v.owned) move) ∙ f);
 }
 
-pub held-split : (p : TableId) (s n : SeatState) (c d : Chain) (r : ℕ) (t : Tree) (ts : List Tree) (rs : List ℕ) → tree_word t ≡ suc r → Holding p s c (t ∷ ts) rs
+pub held-split : (p : TableId) (s n : SeatState) (c d : Chain) (r : ℕ) (t : Tree) (ts : List Tree) (rs : List ℕ) → tree_word t ≡ suc r
+    → Holding p s c (t ∷ ts) rs
     → n.table ≡ s.table → n.view ≡ split_off (r ∷ []) s.view → IsChain n.view d [] → HoldsRow p r (n, d)
 held-split p s n c d r t ts rs is h table move on = record {
   tree = t;

@@ -26,7 +26,8 @@ owned-in r (p ∷ ps) keys_distinct empty h = ⊎_elim
     (λ a. ⊎_elim (λ (z : p.0 ≡ r). (p.1, rw (eq-eqb p.0 r z) refl))
     (λ b. absurd (true≢false (sym (subst (λ ls. In r (concat_map link_rows ls)) (empty p.0 p.1 (rw (eq-eqb p.0 p.0 refl) refl)) b))))
     (in-head r p.0 (concat_map link_rows p.1.links) a))
-    (λ b. let o = owned-in r ps keys_distinct.1 (λ q e f. empty q e (⊎_elim (λ t. absurd (some-ne-none e (sym f ∙ ap (λ q. find q ps) (sym t.1) ∙ keys_distinct.0)))
+    (λ b. let o = owned-in r ps keys_distinct.1 (λ q e f. empty q e (⊎_elim (λ t. absurd (some-ne-none e (sym f ∙ ap (λ q. find q ps) (sym t.1)
+    ∙ keys_distinct.0)))
     (λ t. rw t.0 f) (eqb_tells p.0 q))) b in
     ⊎_elim (λ t. (p.1, rw t.0 refl)) (λ t. (o.0, rw t.0 o.1)) (eqb_tells p.0 r))
     (in-append r (entry_rows p) (concat_map entry_rows ps) h)
@@ -66,7 +67,8 @@ pub chain-whole : (v : SeatView) (c : Chain) (rs : List ℕ) → ViewInvariant v
 chain-whole v c rs h first home refs on all =
     let empty : (q : ℕ) (e : Entry) → find q v.owned ≡ some e → e.links ≡ [] = λ q e f.
     let o = strung-free v rs c.head q on.linked_from (all q e f) in
-    let kind : e.kind ≡ 0 = ap (λ (e : Entry). e.kind) (some-injective e o.0 (sym f ∙ o.1)) ∙ o.2 in no-links e.links ((h.rows q e f).many ∙ ap link_count kind) in
+    let kind : e.kind ≡ 0 = ap (λ (e : Entry). e.kind) (some-injective e o.0 (sym f ∙ o.1)) ∙ o.2 in no-links e.links ((h.rows q e f).many
+    ∙ ap link_count kind) in
     let within : (r : ℕ) → In r (rows_of_view v) → In r rs = λ r i. let o = owned-in r v.owned h.keys_distinct empty
     (subst (λ ts. In r (concat_map rows_in ts ++ concat_map entry_rows v.owned)) refs i) in all r o.0 o.1 in
     let most : row_count v.size v ≤ length rs = let a = below-most (λ r. has r (rows_of_view v)) (λ r. has r rs) v.size

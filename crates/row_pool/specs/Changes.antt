@@ -46,7 +46,14 @@ numbered k (x ∷ xs) = (k, x) ∷ numbered (suc k) xs
 
 -- the row of a tree once it is owned
 abbrev pub entry_of : Tree → ℕ → ℕ → Entry
-entry_of t own linked = record { kind = slice_index (words_of t) 1; own = own; linked = linked; links = map Link.to (children t); known = numbered 0 (words_of t) }
+entry_of t own linked = record {
+  kind = slice_index (words_of t) 1;
+  own = own;
+  linked = linked;
+  links = map Link.to (children t);
+  known = numbered 0
+      (words_of t);
+}
 
 -- the table with this entry for the row r, and no other for it
 abbrev pub put : ℕ → Entry → List (ℕ × Entry) → List (ℕ × Entry)

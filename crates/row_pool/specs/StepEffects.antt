@@ -46,7 +46,8 @@ pub record Drops {S : Type 0} (st : Step S) (me : Me S SeatView) (n : ℕ) (now 
 pub record Owns {S : Type 0} (st : Step S) (me : Me S SeatView) (n : ℕ) (now : Me S SeatView) : Type 0 where
   pub unchanged : Unchanged me now
   pub single : (r k : ℕ) (t : Tree) → At st r 0 → tree_word t ≡ suc r → get_elem? me.0.refs k ≡ some t → n ≡ 1 → now.0 ≡ own_row t r 1 me.0
-  pub through_link : (r q k : ℕ) (t : Tree) (d : Entry) → At st r 0 → tree_word t ≡ suc r → find q me.0.owned ≡ some d → get_elem? d.links k ≡ some (Link.to t) → n ≡ 1
+  pub through_link : (r q k : ℕ) (t : Tree) (d : Entry) → At st r 0 → tree_word t ≡ suc r → find q me.0.owned ≡ some d
+      → get_elem? d.links k ≡ some (Link.to t) → n ≡ 1
       → now.0 ≡ own_linked_row t r q k d me.0
   pub shared : (n ≡ 1 → ⊥) → now.0 ≡ me.0
   pub alone : (r : ℕ) (t : Tree) → At st r 0 → tree_word t ≡ suc r → Reaches me.0 t → me.0.number ≡ 1 → me.0.out ≡ [] → Alone r me.0 → n ≡ 1

@@ -12,7 +12,8 @@ ghost use Rattle.row_pool.specs.Changes.{with_ref, without_ref, with_entry, own_
 ghost use Rattle.row_pool.specs.Changes.{target_of, without_tree, fresh, written, turned_into, published, published_by_link, Becomes};
 ghost use Rattle.row_pool.specs.Changes.{HasRefs, remaining, split_off, joined};
 ghost use Rattle.row_pool.specs.Views.{Reaches, ViewInvariant, Alone, Empty};
-ghost use Rattle.row_pool.specs.SeatState.{SeatState, state_coded, OwnsOrReaches, OwnsOrReachesAs, LinkAt, LinksToLive, LinksToOwned, IsNewNode, OnlyViewChanges};
+ghost use Rattle.row_pool.specs.SeatState.{SeatState, state_coded, OwnsOrReaches, OwnsOrReachesAs, LinkAt, LinksToLive, LinksToOwned, IsNewNode};
+ghost use Rattle.row_pool.specs.SeatState.{OnlyViewChanges};
 ghost use Rattle.row_pool.specs.SeatState.{kind_of, row_of, link_to, SeatInvariant, OnlyEntryChanges};
 ghost use Rattle.row_pool.specs.Chains.{IsChain, HasMark, ChainGrows};
 ghost use Rattle.row_pool.specs.Loops.{HasZeros};
@@ -46,7 +47,8 @@ impl Model for Rows {
 }
 
 /// What one thread knows of the pool: the trees that it has references to, and the rows that it owns. Each call names the seat that it is made by, and its
-/// contract says how that seat's view changes; the views of all others stay as they are. A seat is no `Drop`: the first one ends in `close`, each other in `join`.
+/// contract says how that seat's view changes; the views of all others stay as they are. A seat is no `Drop`: the first one ends in `close`, each other in
+/// `join`.
 pub struct RowSeat {
     seat: Seat<u8, View>,
     follows: u64,
@@ -207,7 +209,8 @@ impl Rows {
         requires reachable { OwnsOrReachesAs (λ kind. IsLink kind word) seat.old.view row }
         ensures same { (seat.new.table ≡ seat.old.table) × (seat.new.view ≡ seat.old.view) }
         ensures follows { seat.new.follows ≡ min (seat.old.follows + 1) (2 ^ 64 - 1) }
-        ensures tree { (t u : Tree) (k : ℕ) → Reaches seat.old.view t → tree_word t ≡ suc row → word ≡ first_link (kind_of t) + k → get_elem? (children t) k ≡ some u
+        ensures tree { (t u : Tree) (k : ℕ) → Reaches seat.old.view t → tree_word t ≡ suc row → word ≡ first_link (kind_of t) + k
+            → get_elem? (children t) k ≡ some u
             → result ≡ row_of (tree_word u) }
         ensures owned { (e : Entry) (l : Link) (k : ℕ) → LinkAt seat.old.view row word e k l → result ≡ row_of (link_word l) }
     {
@@ -439,12 +442,14 @@ impl Rows {
             .store::<SetKind>(&mut seat.seat, row as usize * 80 + 1, kind);
     }
 
-    /// Writes a word of an owned row that is no counted link, by one store. Word 1 is written to free rows alone: 1 makes the row an item, 2 or 3 a node, where the words
+    /// Writes a word of an owned row that is no counted link, by one store. Word 1 is written to free rows alone: 1 makes the row an item, 2 or 3 a node,
+    /// where the words
     /// that become links are known to hold 0.
     pub fn write(&self, seat: &mut RowSeat, row: u32, word: u32, value: u64)
         requires table { seat.old.table ≡ self.now }
         requires owned { (e : Entry) × (find row seat.old.view.owned ≡ some e) × IsContent e.kind word
-            × (word ≡ 1 → (e.kind ≡ 0) × (1 ≤ value) × (value ≤ 3) × ((u : ℕ) → first_link value ≤ u → u < first_link value + link_count value → find u e.known ≡ some 0)) }
+            × (word ≡ 1 → (e.kind ≡ 0) × (1 ≤ value) × (value ≤ 3) × ((u : ℕ) → first_link value ≤ u → u < first_link value + link_count value
+            → find u e.known ≡ some 0)) }
         ensures same { OnlyViewChanges seat.old seat.new }
         ensures content { word ≢ 1 → (e : Entry) → find row seat.old.view.owned ≡ some e
             → seat.new.view ≡ with_entry row (written word value e) seat.old.view }
@@ -463,7 +468,8 @@ impl Rows {
         requires free { (e : Entry) × (find row seat.old.view.owned ≡ some e) × (e.kind ≡ 0) }
         ensures same { OnlyViewChanges seat.old seat.new }
         ensures only { OnlyEntryChanges row seat.old.view seat.new.view }
-        ensures cleared { (e : Entry) → find row seat.old.view.owned ≡ some e → (d : Entry) × (find row seat.new.view.owned ≡ some d) × HasZeros (link_count 2) e d }
+        ensures cleared { (e : Entry) → find row seat.old.view.owned ≡ some e → (d : Entry) × (find row seat.new.view.owned ≡ some d)
+            × HasZeros (link_count 2) e d }
     {
         for k in 0..NODE_LINKS {
             self.put(seat, row, NODE_LINK + k, 0);
@@ -476,14 +482,16 @@ impl Rows {
         requires free { (e : Entry) × (find row seat.old.view.owned ≡ some e) × (e.kind ≡ 0) × HasMark e }
         ensures same { OnlyViewChanges seat.old seat.new }
         ensures only { OnlyEntryChanges row seat.old.view seat.new.view }
-        ensures cleared { (e : Entry) → find row seat.old.view.owned ≡ some e → (d : Entry) × (find row seat.new.view.owned ≡ some d) × HasZeros (link_count 2) e d }
+        ensures cleared { (e : Entry) → find row seat.old.view.owned ≡ some e → (d : Entry) × (find row seat.new.view.owned ≡ some d)
+            × HasZeros (link_count 2) e d }
     {
         if self.read(seat, row, 2) != 0 {
             self.clear(seat, row);
         }
     }
 
-    /// A free row that comes from a chain becomes a leaf (2) or an inner node (3) whose links are empty. One load and one store, where the row was a node before
+    /// A free row that comes from a chain becomes a leaf (2) or an inner node (3) whose links are empty. One load and one store, where the row was a node
+    /// before
     /// or was never used; 64 stores more where it was an item.
     pub fn start_node(&self, seat: &mut RowSeat, row: u32, kind: u64)
         requires table { seat.old.table ≡ self.now }
@@ -497,7 +505,8 @@ impl Rows {
         self.turn(seat, row, kind);
     }
 
-    /// An owned item or node goes live: nobody writes it from then on, and others may come to reach it. Its links stand for live rows, at most 3 levels of them.
+    /// An owned item or node goes live: nobody writes it from then on, and others may come to reach it. Its links stand for live rows, at most 3 levels of
+    /// them.
     /// The one reference to it is the seat's, or stays the link of the seat's row that leads to it. One store.
     pub fn publish(&self, seat: &mut RowSeat, row: u32)
         requires table { seat.old.table ≡ self.now }
