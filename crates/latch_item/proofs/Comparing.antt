@@ -1,5 +1,6 @@
 -- Keys that are compared by their words.
-use Rattle.std.proofs.Common.{◌≡◌, ◌≢◌, ⊎_elim, ℕ, zero, suc, ◌+◌, ◌*◌, ◌/◌, ◌%◌, ◌<◌, ◌≤◌, Bool, true, false, not, if◌then◌else◌, List, [], ◌∷◌, ◌++◌, length}
+use Rattle.std.proofs.Common.{◌≡◌, ◌≢◌, ⊎_elim, ℕ, zero, suc, ◌+◌, ◌*◌, ◌/◌, ◌%◌, ◌<◌, ◌≤◌, Bool, true, false, not, if◌then◌else◌, List, [], ◌∷◌, ◌++◌}
+use Rattle.std.proofs.Common.{length}
 use Rattle.std.proofs.Common.{map, slice_index, eqb, ne_eqb, sym, refl, ap, ◌∙◌, subst, arith}
 use Rattle.std.specs.Ordering.{nat_cmp, ordering_then, ordering_reverse, is_lt, is_le, is_ge, is_gt, is_ne}
 use Rattle.std.specs.Cmp.Lexicographic.{slice_cmp}
@@ -30,7 +31,8 @@ module _ (f g : ℕ → ℕ) (us vs : List ℕ) where
   cmp-at (suc n) a i same le lt ne = ⊎_elim
       (λ (e : a ≡ i). let ne2 : f a ≢ g a = λ z. ne (subst (λ j. f j ≡ g j) e z) in
       apart-then (f a) (g a) (slice_cmp nat_cmp (map f (run (suc a) n) ++ us) (map g (run (suc a) n) ++ vs)) ne2 ∙ (λ k. nat_cmp (f (e k)) (g (e k))))
-      (λ (d : a ≢ i). same-then (f a) (g a) (slice_cmp nat_cmp (map f (run (suc a) n) ++ us) (map g (run (suc a) n) ++ vs)) (same a (omega arith) (omega arith))
+      (λ (d : a ≢ i). same-then (f a) (g a) (slice_cmp nat_cmp (map f (run (suc a) n) ++ us) (map g (run (suc a) n) ++ vs))
+      (same a (omega arith) (omega arith))
       ∙ cmp-at n (suc a) i (λ k p q. same k (omega arith) q) (omega arith) (omega arith) ne)
       (same_or a i)
 

@@ -1,9 +1,9 @@
 -- The words of a free row that becomes an item.
-use Rattle.std.proofs.Common.{◌≡◌, ◌≢◌, ⊎_elim, inl, inr, ℕ, suc, ◌+◌, ◌<◌, ◌≤◌, List, [], sym, refl, ap, ◌∙◌, subst, arith}
+use Rattle.std.proofs.Common.{◌≡◌, ◌≢◌, ⊎_elim, ℕ, ◌+◌, ◌<◌, ◌≤◌, [], sym, refl, ap, ◌∙◌, subst, arith}
 use mathlib.Core.Option.{some}
 use Rattle.row_pool.specs.Trees.{Entry}
 use Rattle.row_pool.specs.SeatView.{SeatView}
-use Rattle.row_pool.specs.SeatState.{SeatState, OnlyEntryChanges}
+use Rattle.row_pool.specs.SeatState.{OnlyEntryChanges}
 use Rattle.row_pool.specs.Lists.{find}
 use Rattle.row_pool.specs.Changes.{nil_links, written, with_entry, turned_into}
 use Rattle.row_pool.specs.Layout.{IsContent}
@@ -35,7 +35,11 @@ holds-join w n m e d f a b = record {
 
 pub only-join : (v w x : SeatView) (row : ℕ) → OnlyEntryChanges row v w → OnlyEntryChanges row w x → OnlyEntryChanges row v x
 only-join v w x row a b = record {
-  same_seat = record { number = b.same_seat.number ∙ a.same_seat.number; out = b.same_seat.out ∙ a.same_seat.out; size = b.same_seat.size ∙ a.same_seat.size };
+  same_seat = record {
+    number = b.same_seat.number ∙ a.same_seat.number;
+    out = b.same_seat.out ∙ a.same_seat.out;
+    size = b.same_seat.size ∙ a.same_seat.size;
+  };
   refs = b.refs ∙ a.refs;
   others = λ q n. b.others q n ∙ a.others q n;
 }
@@ -49,7 +53,12 @@ pub put-is : (v w : SeatView) (row word value : ℕ) (e : Entry) → find row v.
     → ((e : Entry) → find row v.owned ≡ some e → w ≡ with_entry row (written word value e) v) → Put v w row word value
 put-is v w row word value e has is = record {
   only = subst (OnlyEntryChanges row v) (sym (is e has)) (only-put row v v (written word value e) (only-same row v));
-  put = λ d h. (written word value d, ap (λ (z : SeatView). find row z.owned) (is d h) ∙ find-here row (written word value d) v.owned, holds-written word value d);
+  put = λ d h. (
+    written word value d,
+    ap (λ (z : SeatView). find row z.owned) (is d h)
+        ∙ find-here row (written word value d) v.owned,
+    holds-written word value d,
+  );
 }
 
 pub put-join : (v w x : SeatView) (row word m n : ℕ) → Put v w row word m → Put w x row word n → Put v x row word n

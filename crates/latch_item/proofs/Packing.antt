@@ -26,7 +26,8 @@ mono x y (suc p) h = let a = mono x y p h in grind arith
 
 pub number-low : (m : ℕ) (bs : List ℕ) → Bytes bs → number m bs < 256 ^ m
 number-low zero bs h = omega arith
-number-low (suc m) bs h = let a = mono (byte bs) 256 (256 ^ m) (byte-low bs h) in let b = number-low m (rest bs) (rest-bytes bs h) in let e : 256 ^ suc m ≡ 256 ^ m * 256 = simp unary_clauses in omega arith
+number-low (suc m) bs h = let a = mono (byte bs) 256 (256 ^ m) (byte-low bs h) in let b = number-low m (rest bs) (rest-bytes bs h) in
+    let e : 256 ^ suc m ≡ 256 ^ m * 256 = simp unary_clauses in omega arith
 
 -- n words of eight bytes
 abbrev pub packed : ℕ → List ℕ → List ℕ
@@ -55,7 +56,8 @@ three-way : (x y : ℕ) → (x < y) ⊎ ((x ≡ y) ⊎ (y < x))
 three-way x y = grind arith
 
 shift : (s x y : ℕ) → nat_cmp (s + x) (s + y) ≡ nat_cmp x y
-shift s x y = ⊎_elim (λ a. less-is (s + x) (s + y) (omega arith) ∙ sym (less-is x y a)) (λ b. ⊎_elim (λ e. same-is (s + x) (s + y) (omega arith) ∙ sym (same-is x y e)) (λ g. greater-is (s + x) (s + y) (omega arith) ∙ sym (greater-is x y g)) b) (three-way x y)
+shift s x y = ⊎_elim (λ a. less-is (s + x) (s + y) (omega arith) ∙ sym (less-is x y a)) (λ b. ⊎_elim (λ e. same-is (s + x) (s + y) (omega arith)
+    ∙ sym (same-is x y e)) (λ g. greater-is (s + x) (s + y) (omega arith) ∙ sym (greater-is x y g)) b) (three-way x y)
 
 -- a number of m bytes is in the order of its bytes
 pub number-cmp : (m : ℕ) (xs ys : List ℕ) → Bytes xs → Bytes ys → nat_cmp (number m xs) (number m ys) ≡ slice_cmp nat_cmp (padded m xs) (padded m ys)
@@ -66,10 +68,13 @@ number-cmp (suc m) xs ys a b =
     let h = number-cmp m (rest xs) (rest ys) (rest-bytes xs a) (rest-bytes ys b) in
     let tail = slice_cmp nat_cmp (padded m (rest xs)) (padded m (rest ys)) in
     ⊎_elim
-    (λ (l : byte xs < byte ys). let k = mono (byte xs) (byte ys) p l in less-is (byte xs * p + u) (byte ys * p + v) (omega arith) ∙ ap (λ o. ordering_then o tail) (sym (less-is (byte xs) (byte ys) l)))
+    (λ (l : byte xs < byte ys). let k = mono (byte xs) (byte ys) p l in less-is (byte xs * p + u) (byte ys * p + v) (omega arith)
+    ∙ ap (λ o. ordering_then o tail) (sym (less-is (byte xs) (byte ys) l)))
     (λ r. ⊎_elim
-    (λ (e : byte xs ≡ byte ys). ap (λ z. nat_cmp (byte xs * p + u) (z * p + v)) (sym e) ∙ shift (byte xs * p) u v ∙ h ∙ ap (λ o. ordering_then o tail) (sym (same-is (byte xs) (byte ys) e)))
-    (λ (g : byte ys < byte xs). let k = mono (byte ys) (byte xs) p g in greater-is (byte xs * p + u) (byte ys * p + v) (omega arith) ∙ ap (λ o. ordering_then o tail) (sym (greater-is (byte xs) (byte ys) g))) r)
+    (λ (e : byte xs ≡ byte ys). ap (λ z. nat_cmp (byte xs * p + u) (z * p + v)) (sym e) ∙ shift (byte xs * p) u v ∙ h
+    ∙ ap (λ o. ordering_then o tail) (sym (same-is (byte xs) (byte ys) e)))
+    (λ (g : byte ys < byte xs). let k = mono (byte ys) (byte xs) p g in greater-is (byte xs * p + u) (byte ys * p + v) (omega arith)
+    ∙ ap (λ o. ordering_then o tail) (sym (greater-is (byte xs) (byte ys) g))) r)
     (three-way (byte xs) (byte ys))
 
 pub then-assoc : (o p q : Ordering) → ordering_then (ordering_then o p) q ≡ ordering_then o (ordering_then p q)
@@ -82,11 +87,13 @@ then-equal Less = refl
 then-equal Equal = refl
 then-equal Greater = refl
 
-pub cmp-join : (us vs cs ds : List ℕ) → length us ≡ length vs → slice_cmp nat_cmp (us ++ cs) (vs ++ ds) ≡ ordering_then (slice_cmp nat_cmp us vs) (slice_cmp nat_cmp cs ds)
+pub cmp-join : (us vs cs ds : List ℕ) → length us ≡ length vs
+    → slice_cmp nat_cmp (us ++ cs) (vs ++ ds) ≡ ordering_then (slice_cmp nat_cmp us vs) (slice_cmp nat_cmp cs ds)
 cmp-join [] [] cs ds e = refl
 cmp-join [] (v ∷ vs) cs ds e = absurd (omega arith)
 cmp-join (u ∷ us) [] cs ds e = absurd (omega arith)
-cmp-join (u ∷ us) (v ∷ vs) cs ds e = ap (ordering_then (nat_cmp u v)) (cmp-join us vs cs ds (omega arith)) ∙ sym (then-assoc (nat_cmp u v) (slice_cmp nat_cmp us vs) (slice_cmp nat_cmp cs ds))
+cmp-join (u ∷ us) (v ∷ vs) cs ds e = ap (ordering_then (nat_cmp u v)) (cmp-join us vs cs ds (omega arith))
+    ∙ sym (then-assoc (nat_cmp u v) (slice_cmp nat_cmp us vs) (slice_cmp nat_cmp cs ds))
 
 pub padded-length : (m : ℕ) (bs : List ℕ) → length (padded m bs) ≡ m
 padded-length zero bs = refl
@@ -101,7 +108,8 @@ skip-bytes zero bs h = h
 skip-bytes (suc m) bs h = skip-bytes m (rest bs) (rest-bytes bs h)
 
 -- n words are in the order of the 8 n bytes
-pub packed-cmp : (n : ℕ) (xs ys : List ℕ) → Bytes xs → Bytes ys → slice_cmp nat_cmp (packed n xs) (packed n ys) ≡ slice_cmp nat_cmp (padded (n * 8) xs) (padded (n * 8) ys)
+pub packed-cmp : (n : ℕ) (xs ys : List ℕ) → Bytes xs → Bytes ys
+    → slice_cmp nat_cmp (packed n xs) (packed n ys) ≡ slice_cmp nat_cmp (padded (n * 8) xs) (padded (n * 8) ys)
 packed-cmp zero xs ys a b = refl
 packed-cmp (suc n) xs ys a b =
     let e : suc n * 8 ≡ 8 + n * 8 = omega arith in
@@ -114,35 +122,44 @@ ends-first : (n : ℕ) (ys : List ℕ) → ordering_then (slice_cmp nat_cmp (pad
 ends-first zero ys = refl
 ends-first (suc n) ys = ⊎_elim
     (λ (l : 0 < byte ys). ap (λ o. ordering_then (ordering_then o (slice_cmp nat_cmp (padded n []) (padded n (rest ys)))) Less) (less-is 0 (byte ys) l))
-    (λ r. ⊎_elim (λ (e : 0 ≡ byte ys). ap (λ o. ordering_then (ordering_then o (slice_cmp nat_cmp (padded n []) (padded n (rest ys)))) Less) (same-is 0 (byte ys) e) ∙ ends-first n (rest ys)) (λ (g : byte ys < 0). absurd (omega arith)) r) (three-way 0 (byte ys))
+    (λ r. ⊎_elim (λ (e : 0 ≡ byte ys). ap
+    (λ o. ordering_then (ordering_then o (slice_cmp nat_cmp (padded n []) (padded n (rest ys)))) Less) (same-is 0 (byte ys) e)
+    ∙ ends-first n (rest ys)) (λ (g : byte ys < 0). absurd (omega arith)) r) (three-way 0 (byte ys))
 
 ends-last : (n : ℕ) (xs : List ℕ) → ordering_then (slice_cmp nat_cmp (padded n xs) (padded n [])) Greater ≡ Greater
 ends-last zero xs = refl
 ends-last (suc n) xs = ⊎_elim
     (λ (l : byte xs < 0). absurd (omega arith))
-    (λ r. ⊎_elim (λ (e : byte xs ≡ 0). ap (λ o. ordering_then (ordering_then o (slice_cmp nat_cmp (padded n (rest xs)) (padded n []))) Greater) (same-is (byte xs) 0 e) ∙ ends-last n (rest xs))
-    (λ (g : 0 < byte xs). ap (λ o. ordering_then (ordering_then o (slice_cmp nat_cmp (padded n (rest xs)) (padded n []))) Greater) (greater-is (byte xs) 0 g)) r) (three-way (byte xs) 0)
+    (λ r. ⊎_elim (λ (e : byte xs ≡ 0). ap
+    (λ o. ordering_then (ordering_then o (slice_cmp nat_cmp (padded n (rest xs)) (padded n []))) Greater) (same-is (byte xs) 0 e) ∙ ends-last n (rest xs))
+    (λ (g : 0 < byte xs). ap (λ o. ordering_then (ordering_then o (slice_cmp nat_cmp (padded n (rest xs)) (padded n []))) Greater) (greater-is (byte xs) 0
+    g)) r) (three-way (byte xs) 0)
 
 -- padded bytes and then the lengths: the lexicographic order
-pub padded-cmp : (n : ℕ) (xs ys : List ℕ) → length xs ≤ n → length ys ≤ n → ordering_then (slice_cmp nat_cmp (padded n xs) (padded n ys)) (nat_cmp (length xs) (length ys)) ≡ slice_cmp nat_cmp xs ys
+pub padded-cmp : (n : ℕ) (xs ys : List ℕ) → length xs ≤ n → length ys ≤ n
+    → ordering_then (slice_cmp nat_cmp (padded n xs) (padded n ys)) (nat_cmp (length xs) (length ys)) ≡ slice_cmp nat_cmp xs ys
 padded-cmp n [] [] a b = ap (ordering_then (slice_cmp nat_cmp (padded n []) (padded n []))) (same-is 0 0 refl) ∙ same n
   where
     same : (n : ℕ) → ordering_then (slice_cmp nat_cmp (padded n []) (padded n [])) Equal ≡ Equal
     same zero = refl
     same (suc n) = ap (λ o. ordering_then (ordering_then o (slice_cmp nat_cmp (padded n []) (padded n []))) Equal) (same-is 0 0 refl) ∙ same n
-padded-cmp n [] (y ∷ ys) a b = ap (ordering_then (slice_cmp nat_cmp (padded n []) (padded n (y ∷ ys)))) (less-is 0 (length (y ∷ ys)) (omega arith)) ∙ ends-first n (y ∷ ys)
-padded-cmp n (x ∷ xs) [] a b = ap (ordering_then (slice_cmp nat_cmp (padded n (x ∷ xs)) (padded n []))) (greater-is (length (x ∷ xs)) 0 (omega arith)) ∙ ends-last n (x ∷ xs)
+padded-cmp n [] (y ∷ ys) a b = ap (ordering_then (slice_cmp nat_cmp (padded n []) (padded n (y ∷ ys)))) (less-is 0 (length (y ∷ ys)) (omega arith))
+    ∙ ends-first n (y ∷ ys)
+padded-cmp n (x ∷ xs) [] a b = ap (ordering_then (slice_cmp nat_cmp (padded n (x ∷ xs)) (padded n []))) (greater-is (length (x ∷ xs)) 0 (omega arith))
+    ∙ ends-last n (x ∷ xs)
 padded-cmp zero (x ∷ xs) (y ∷ ys) a b = absurd (omega arith)
 padded-cmp (suc n) (x ∷ xs) (y ∷ ys) a b =
     then-assoc (nat_cmp x y) (slice_cmp nat_cmp (padded n xs) (padded n ys)) (nat_cmp (length (x ∷ xs)) (length (y ∷ ys)))
-    ∙ ap (λ o. ordering_then (nat_cmp x y) (ordering_then (slice_cmp nat_cmp (padded n xs) (padded n ys)) o)) ((λ i. nat_cmp (one (length xs) i) (one (length ys) i)) ∙ shift 1 (length xs) (length ys))
+    ∙ ap (λ o. ordering_then (nat_cmp x y) (ordering_then (slice_cmp nat_cmp (padded n xs) (padded n ys)) o)) ((λ i. nat_cmp (one (length xs) i) (one
+    (length ys) i)) ∙ shift 1 (length xs) (length ys))
     ∙ ap (ordering_then (nat_cmp x y)) (padded-cmp n xs ys (omega arith) (omega arith))
   where
     one : (k : ℕ) → suc k ≡ 1 + k
     one k = omega arith
 
 -- keys of at most 256 bytes, by 32 words and the length
-pub key-cmp : (xs ys : List ℕ) → Bytes xs → Bytes ys → length xs ≤ 256 → length ys ≤ 256 → slice_cmp nat_cmp (packed 32 xs ++ length xs ∷ []) (packed 32 ys ++ length ys ∷ []) ≡ slice_cmp nat_cmp xs ys
+pub key-cmp : (xs ys : List ℕ) → Bytes xs → Bytes ys → length xs ≤ 256 → length ys ≤ 256
+    → slice_cmp nat_cmp (packed 32 xs ++ length xs ∷ []) (packed 32 ys ++ length ys ∷ []) ≡ slice_cmp nat_cmp xs ys
 key-cmp xs ys a b c d =
     cmp-join (packed 32 xs) (packed 32 ys) (length xs ∷ []) (length ys ∷ []) (packed-length 32 xs ∙ sym (packed-length 32 ys))
     ∙ (λ i. ordering_then (packed-cmp 32 xs ys a b i) (last i))

@@ -1,15 +1,14 @@
 -- What a seat knows of a row that it has as an item.
-use Rattle.std.proofs.Common.{◌≡◌, ◌≢◌, ◌⊎◌, ⊎_elim, inl, inr, ℕ, suc, ◌+◌, ◌*◌, ◌<◌, ◌≤◌, ◌^◌, true, false, List, [], map, take, length, sym, refl, ap, ◌∙◌, subst, arith}
+use Rattle.std.proofs.Common.{◌≡◌, ⊎_elim, inl, inr, ℕ, suc, ◌+◌, ◌*◌, ◌<◌, ◌≤◌, true, false, List, [], map, take, sym, ap}
+use Rattle.std.proofs.Common.{◌∙◌, subst, arith}
 use mathlib.Core.Option.{some}
-use Rattle.row_pool.specs.Trees.{Tree, Entry, tree_word, words_of}
+use Rattle.row_pool.specs.Trees.{Tree, Entry, tree_word}
 use Rattle.row_pool.specs.SeatView.{SeatView}
 use Rattle.row_pool.specs.SeatState.{SeatState, OwnsOrReachesAs, kind_of}
 use Rattle.row_pool.specs.Views.{Reaches}
 use Rattle.row_pool.specs.Layout.{first_link, IsContent}
 use Rattle.row_pool.specs.Lists.{find}
 use Rattle.row_pool.specs.Changes.{Becomes}
-use Rattle.row_pool.proofs.Seats.{same_or}
-use Rattle.span_key.specs.Spans.{Pair, IsSpan}
 use Rattle.latch_item.specs.Bytes.{number, skip, key_word, bytes_of}
 use Rattle.latch_item.specs.Items.{Item, IsItemPlace, IsItemOf, IsValid, OwnsItem, HasItem, item_word, item_of, word, run}
 use Rattle.latch_item.proofs.Packing.{packed}
@@ -47,7 +46,8 @@ read-item v a x w n p live owned b = ⊎_elim
 
 -- ---- the words of an item spell it
 part-bytes : (t : Tree) (a : ℕ) (k : List ℕ) → ((i : ℕ) → i < 32 → word t (a + i) ≡ key_word k i) → map (word t) (run a 32) ≡ packed 32 k
-part-bytes t a k h = run-packed (word t) k 32 a 0 (λ i low. h i low ∙ word-is k i ∙ ap (λ j. number 8 (skip (j * 8) k)) (let e : i ≡ 0 + i = omega arith in e))
+part-bytes t a k h = run-packed (word t) k 32 a 0 (λ i low. h i low ∙ word-is k i
+    ∙ ap (λ j. number 8 (skip (j * 8) k)) (let e : i ≡ 0 + i = omega arith in e))
 
 pub item-is : (t : Tree) (x : Item) → IsItemOf t x → item_of t ≡ x
 unfolding item_of

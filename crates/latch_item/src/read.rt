@@ -115,13 +115,13 @@ fn read_bytes(rows: &Rows, seat: &mut RowSeat, a: u32, end: bool, bytes: &mut [u
     let len = read_len(rows, seat, a, end);
     for i in 0..(len + 7) / 8 {
         let word = read_part(rows, seat, a, end, i);
-        put_word(bytes, i as usize * 8, word);
+        copy_word(bytes, i as usize * 8, word);
     }
     len as usize
 }
 
 // The eight bytes of a word go into a buffer.
-fn put_word(bytes: &mut [u8], at: usize, word: u64)
+fn copy_word(bytes: &mut [u8], at: usize, word: u64)
     requires { at + 8 ≤ length bytes.old }
     ensures put { take (at + 8) bytes.new ≡ take at bytes.old ++ spelled 8 word }
     ensures len { length bytes.new ≡ length bytes.old }

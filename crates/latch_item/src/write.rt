@@ -12,7 +12,7 @@ use hlc_stamp::Stamp;
 use row_pool::{RowSeat, Rows};
 use span_key::Span;
 
-/// An owned free row becomes the item of a latch. `stamp` is the normal stamp. OnlyEntryChanges words that hold something else are stored.
+/// An owned free row becomes the item of a latch. `stamp` is the normal stamp. Only words that hold something else are stored.
 pub fn write_item(
     rows: &Rows,
     seat: &mut RowSeat,

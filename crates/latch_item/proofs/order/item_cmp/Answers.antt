@@ -1,7 +1,6 @@
-use Rattle.std.proofs.Common.{◌≡◌, ℕ, true, false, sym, ap, ◌∙◌}
+use Rattle.std.proofs.Common.{◌≡◌, true, false, sym, ap, ◌∙◌}
 use Rattle.std.specs.Ordering.{nat_cmp, ordering_then, is_ne}
 use Rattle.span_key.specs.Spans.{key_cmp}
-use Rattle.latch_item.specs.Items.{Item}
 use Rattle.latch_item.proofs.Rows.{kept}
 use Rattle.latch_item.proofs.Comparing.{then-ne, then-eq}
 use Rattle.latch_item.proofs.order.item_cmp.Goals as goal

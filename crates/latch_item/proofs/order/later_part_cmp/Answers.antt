@@ -37,4 +37,5 @@ returns-clause-order c = λ x b.
     let least = c.min.ensures in
     c.cmp-2.ensures ∙ (λ j. nat_cmp (m j) (length c.args.bytes.now))
     ∙ sym (same-words p c.args.bytes.now c.loop-i.i c.min.result (part-fits c.args.end x.span (valid-of c.args.seat.now.view c.args.a x b).span)
-    c.requires.key (c.loop-i.invariant.alike x b) (let t = c.loop-i-test.false in let w = c.words_to-i-end.ensures.enough in omega arith) (λ k low high. omega arith))
+    c.requires.key (c.loop-i.invariant.alike x b) (let t = c.loop-i-test.false in let w = c.words_to-i-end.ensures.enough in omega arith)
+    (λ k low high. omega arith))

@@ -1,7 +1,7 @@
 use Rattle.std.proofs.Common.{sym, ◌∙◌, arith}
 use Rattle.std.specs.Ordering.{nat_cmp}
 use Rattle.latch_item.specs.Items.{part}
-use Rattle.latch_item.proofs.Rows.{kept, kept-back, some-kept, valid-of}
+use Rattle.latch_item.proofs.Rows.{kept, some-kept, valid-of}
 use Rattle.latch_item.proofs.Comparing.{part-fits, agree-more, differ-at, same-words}
 use Rattle.latch_item.proofs.order.later_parts_cmp.Goals as goal
 

@@ -1,4 +1,4 @@
-use Rattle.std.proofs.Common.{sym, ◌∙◌, arith}
+use Rattle.std.proofs.Common.{◌∙◌, arith}
 use Rattle.latch_item.proofs.Rows.{kept, valid-of}
 use Rattle.latch_item.proofs.read.item_facts.Goals as goal
 

@@ -1,18 +1,18 @@
-use Rattle.std.proofs.Common.{◌≡◌, ◌*◌, length, ◌∙◌, arith}
+use Rattle.std.proofs.Common.{◌∙◌, arith}
 use Rattle.latch_item.specs.Items.{part}
 use Rattle.latch_item.proofs.Bytes.{bytes-from, put-more, all-put}
-use Rattle.latch_item.proofs.Rows.{kept, some-kept, valid-of}
+use Rattle.latch_item.proofs.Rows.{kept, valid-of}
 use Rattle.latch_item.proofs.Comparing.{part-fits}
 use Rattle.latch_item.proofs.read.read_bytes.Goals as goal
 
 pub loop-i-preserved : goal.loop-i-preserved
 loop-i-preserved c = record {
   same = c.read_part-word.ensures.same ∙ c.loop-i.invariant.same;
-  room = c.put_word.ensures.len ∙ c.loop-i.invariant.room;
+  room = c.copy_word.ensures.len ∙ c.loop-i.invariant.room;
   done = λ x b.
-      put-more (part c.args.end x.span) c.loop-i.bytes c.put_word.new.bytes c.loop-i.i c.read_part-word.result
+      put-more (part c.args.end x.span) c.loop-i.bytes c.copy_word.new.bytes c.loop-i.i c.read_part-word.result
       (bytes-from (part c.args.end x.span) (part-fits c.args.end x.span (valid-of c.args.seat.now.view c.args.a x b).span).bytes)
-      (c.loop-i.invariant.done x b) c.put_word.ensures.put
+      (c.loop-i.invariant.done x b) c.copy_word.ensures.put
       (c.read_part-word.ensures.word x (kept c.args.seat.now c.loop-i.seat c.args.a x c.loop-i.invariant.same b));
 }
 

@@ -1,4 +1,4 @@
-use Rattle.std.proofs.Common.{◌≡◌, subst, arith}
+use Rattle.std.proofs.Common.{subst, arith}
 use Rattle.latch_item.proofs.Filling.{Put, noted, storable, stored}
 use Rattle.latch_item.proofs.write.put_word.Goals as goal
 

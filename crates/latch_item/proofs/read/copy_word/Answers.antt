@@ -1,7 +1,7 @@
 use Rattle.std.proofs.Common.{◌+◌, ◌-◌, ◌++◌, length, take, ap, ◌∙◌, arith}
 use Rattle.std.proofs.lemmas.Slice.{take-put_mid}
 use Rattle.latch_item.proofs.Bytes.{spelled-be}
-use Rattle.latch_item.proofs.read.put_word.Goals as goal
+use Rattle.latch_item.proofs.read.copy_word.Goals as goal
 
 pub returns-clause-put : goal.returns-clause-put
 returns-clause-put c =
