@@ -8,7 +8,7 @@ use Rattle.latch_model.specs.declared.history.Grant.TheVariants.{Never, Checked}
 use Rattle.script.specs.Conflicting.{checked_first, checked_second, checking, one_by_one, one_session, two_blocks, two_sessions, waiting_behind}
 use Rattle.script.specs.Conflicting.{with_another_line, with_session_three, with_sessions_exchanged, without_an_end, without_latches}
 use Rattle.script.specs.Conflicting.{without_session_two, written}
-use Rattle.script.specs.Follows.{Follows, FollowsScript, HasNoOthers, is_session_of, session_of}
+use Rattle.script.specs.Follows.{Follows, FollowsScript, is_session_of, session_of}
 use Rattle.script.specs.declared.command.Command.{Command}
 
 -- the sessions of these scripts

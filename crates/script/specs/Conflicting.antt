@@ -6,7 +6,7 @@ use Rattle.latch_model.specs.declared.history.Entry.{Entry}
 use Rattle.latch_model.specs.declared.history.Entry.TheVariants.{Begun, Ended}
 use Rattle.latch_model.specs.declared.history.Fault.TheVariants.{None as no_fault}
 use Rattle.latch_model.specs.declared.history.Grant.{Grant}
-use Rattle.latch_model.specs.declared.history.Grant.TheVariants.{Never, Waited, Checked}
+use Rattle.latch_model.specs.declared.history.Grant.TheVariants.{Waited}
 use Rattle.latch_model.specs.declared.latch.Access.TheVariants.{Write}
 use Rattle.latch_model.specs.declared.latch.Latch.{Latch}
 use Rattle.latch_model.specs.declared.latch.Mode.{Mode}

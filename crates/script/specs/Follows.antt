@@ -1,6 +1,6 @@
 -- When a history follows a script: the commands of each session fall into blocks, each from an opening through its release, and each block
 -- makes one begin and one end, in the order of the blocks.
-use Rattle.std.specs.Prelude.{◌≡◌, ℕ, ◌+◌, Bool, true, false, not, ◌==◌, ◌&&◌, if◌then◌else◌, IsTrue, List, [], ◌∷◌, Option, Some, None}
+use Rattle.std.specs.Prelude.{◌≡◌, ℕ, Bool, true, false, not, ◌==◌, if◌then◌else◌, IsTrue, List, [], ◌∷◌, Option, Some, None}
 use Rattle.std.specs.Bool.{MatchBool}
 use Rattle.std.specs.List.{All, enumerate_from, filter, list_all, list_any, take_while}
 use Rattle.latch_model.specs.Declaration.{Declaration}

@@ -1,5 +1,5 @@
 -- The script of a number: an endless source of requests for tests and measurements, the same on each machine.
-use Rattle.std.specs.Prelude.{ℕ, zero, suc, ◌+◌, ◌-◌, ◌*◌, ◌/◌, ◌%◌, Bool, false, ◌==◌, nat_le, if◌then◌else◌, List, [], ◌∷◌, ◌++◌, take, Option, Some}
+use Rattle.std.specs.Prelude.{ℕ, zero, suc, ◌+◌, ◌-◌, ◌*◌, ◌/◌, ◌%◌, Bool, false, ◌==◌, nat_le, if◌then◌else◌, List, [], ◌∷◌, ◌++◌, take}
 use Rattle.std.specs.Prelude.{None, decimal}
 use Rattle.hlc_stamp.specs.declared.Stamp.{Stamp}
 use Rattle.latch_model.specs.declared.latch.Access.TheVariants.{Read, Write}
@@ -9,7 +9,7 @@ use Rattle.latch_model.specs.declared.latch.Mode.TheVariants.{Acquire, Optimisti
 use Rattle.latch_model.specs.declared.latch.Policy.{Policy}
 use Rattle.latch_model.specs.declared.latch.Policy.TheVariants.{Wait as policy_wait, Error}
 use Rattle.script.specs.declared.command.Command.{Command}
-use Rattle.script.specs.declared.command.Command.TheVariants.{Begin, Wait, Check, Poison, Release, Metrics}
+use Rattle.script.specs.declared.command.Command.TheVariants.{Begin, Wait, Check, Poison, Release}
 
 -- the number that is drawn after x
 abbrev pub draw : ℕ → ℕ

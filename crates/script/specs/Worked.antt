@@ -1,5 +1,5 @@
 -- Worked examples of definitions.
-use Rattle.std.specs.Prelude.{ℕ, List, [], ◌∷◌, None, codes}
+use Rattle.std.specs.Prelude.{List, [], ◌∷◌, None, codes}
 use Rattle.latch_model.specs.declared.latch.Access.TheVariants.{Read}
 use Rattle.latch_model.specs.declared.latch.Latch.{Latch}
 use Rattle.latch_model.specs.declared.latch.Mode.TheVariants.{Acquire}

@@ -1,7 +1,8 @@
 -- What the tests on spans answer is what their keys say.
 use Rattle.std.proofs.Common.{zero, suc, lit<, ◌≡◌, ◌≢◌, ◌↔◌, ℕ, Bool, true, false, ◌&&◌, List, [], ◌∷◌, refl, sym, ◌∙◌, ap, subst, inl, inr, IsTrue}
 use Rattle.span_key.specs.Spans.{Pair, IsBytes, IsSpan, IsIn, Overlap, LiesIn, lies_in, KeyLess, KeyUpTo, key_lt, key_le, next_key, past, overlap}
-use Rattle.span_key.proofs.KeyOrder.{key_lt-next_key, KeyUpTo-itself, KeyUpTo-less, KeyUpTo-both, KeyLess-never_itself, KeyLess-else, KeyLess-up_to_less, KeyLess-less_up_to, KeyLess-no_empty, KeyLess-next_key, KeyUpTo-trans}
+use Rattle.span_key.proofs.KeyOrder.{key_lt-next_key, KeyUpTo-itself, KeyUpTo-less, KeyUpTo-both, KeyLess-never_itself, KeyLess-else}
+use Rattle.span_key.proofs.KeyOrder.{KeyLess-up_to_less, KeyLess-less_up_to, KeyLess-no_empty, KeyLess-next_key, KeyUpTo-trans}
 
 -- the keys of a span are those from its key up to the least key past it
 pub in_bounds : (k : List ℕ) (s : Pair) → IsIn k s → KeyUpTo s.0 k × KeyLess k (past s)
@@ -113,7 +114,8 @@ pub overlap-wider : (s t u : Pair) → IsTrue (lies_in s t) → IsTrue (overlap 
 overlap-wider s t u part meet =
     let inside = both (key_le t.0 s.0) (key_le (past s) (past t)) part in
     let near = both (key_lt s.0 (past u)) (key_lt u.0 (past s)) meet in
-    and (key_lt t.0 (past u)) (key_lt u.0 (past t)) (KeyLess-up_to_less t.0 s.0 (past u) inside.0 near.0) (KeyLess-less_up_to u.0 (past s) (past t) near.1 inside.1)
+    and (key_lt t.0 (past u)) (key_lt u.0 (past t)) (KeyLess-up_to_less t.0 s.0 (past u) inside.0 near.0)
+    (KeyLess-less_up_to u.0 (past s) (past t) near.1 inside.1)
 
 pub lies_in-itself : (s : Pair) → IsTrue (lies_in s s)
 lies_in-itself s = and (key_le s.0 s.0) (key_le (past s) (past s)) (KeyUpTo-itself s.0) (KeyUpTo-itself (past s))

@@ -1,5 +1,5 @@
 -- How short names, lines and scripts are: a line has at least 7 bytes, so a script has few commands.
-use Rattle.std.proofs.Common.{◌≡◌, ℕ, ◌+◌, ◌*◌, ◌≤◌, ◌&&◌, leb, List, [], ◌∷◌, ◌++◌, length, map, IsTrue, codes, decimal, refl, arith}
+use Rattle.std.proofs.Common.{◌≡◌, ℕ, ◌+◌, ◌*◌, ◌≤◌, ◌&&◌, leb, List, [], ◌∷◌, ◌++◌, length, map, IsTrue, codes, decimal, arith}
 use Rattle.std.specs.List.{AllByRecursion, join_with_byte, list_all, flat_map}
 use Rattle.std.proofs.lemmas.Bool.{and_parts, leb-true}
 use Rattle.std.proofs.lemmas.List.{length-append}
@@ -7,7 +7,7 @@ use Rattle.std.proofs.lemmas.List.Elements.{recursion_from_All}
 use Rattle.latch_model.specs.declared.latch.Mode.{Mode}
 use Rattle.latch_model.specs.declared.latch.Mode.TheVariants.{Acquire, Optimistic, Look}
 use Rattle.script.specs.Commands.{fields_of, line_of, mode_text, policy_text, turns_fields}
-use Rattle.script.specs.Scripts.{is_letter, is_name_byte, is_name, IsCommand, IsScript, FitsLimit, text_of}
+use Rattle.script.specs.Scripts.{is_letter, is_name_byte, is_name, IsCommand, IsScript, FitsLimit}
 use Rattle.script.specs.Texts.{latch_text}
 use Rattle.script.specs.declared.command.Command.{Command}
 use Rattle.script.specs.declared.command.Command.TheVariants.{Begin, Wait, Check, Poison, Release, Metrics}

@@ -1,4 +1,4 @@
-use Rattle.std.proofs.Common.{◌≡◌, ℕ, ◌-◌, sym, arith}
+use Rattle.std.proofs.Common.{◌≡◌, ◌-◌, sym, arith}
 use Rattle.script.proofs.Packed.{fits_above, none_left, one_more}
 use Rattle.script.proofs.command.packed.Goals as goal
 

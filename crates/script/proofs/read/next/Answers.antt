@@ -3,7 +3,6 @@ use Rattle.std.proofs.lemmas.Result.{err_from_is_err_and}
 use Rattle.script.specs.Lines.{fields}
 use Rattle.script.specs.Outcomes.{Gives}
 use Rattle.script.specs.declared.command.Command.{Command}
-use Rattle.script.specs.declared.draft.Draft.{Draft}
 use Rattle.script.proofs.Laws.Commands.{command_takes}
 use Rattle.script.proofs.Walked.{next_fails, more_is}
 use Rattle.script.proofs.read.next.Goals as goal

@@ -1,9 +1,8 @@
-use Rattle.std.proofs.Common.{◌≡◌, ap, List, ◌∷◌, ℕ, decimal, codes, arith}
+use Rattle.std.proofs.Common.{ap, List, ◌∷◌, ℕ, arith}
 use Rattle.std.proofs.lemmas.Fmt.{decimal_digit}
 use Rattle.script.specs.Worked.{first_latch, second_latch}
 use Rattle.latch_model.specs.declared.latch.Mode.TheVariants.{Acquire}
 use Rattle.latch_model.specs.declared.latch.Policy.TheVariants.{Wait as policy_wait}
-use Rattle.script.specs.declared.command.Command.{Command}
 use Rattle.script.specs.declared.command.Command.TheVariants.{Begin, Wait, Release}
 use Rattle.std.specs.Prelude.{[], None}
 use Rattle.script.proofs.spelling.generated_for_one.Goals as goal
