@@ -7,8 +7,8 @@ use Rattle.span_key.specs.Scopes.{scope_if, scope_of}
 use Rattle.span_key.specs.declared.scopes.Scope.{Scope}
 use Rattle.span_key.specs.declared.scopes.Scope.TheVariants.{Global, Local}
 use Rattle.latch_model.specs.Latches.{conflict, has_access, in_scope, local, same, writes}
-use Rattle.latch_model.specs.Histories.{HeldLatch, Snapshot, captures, in_front, in_order, in_waiting_order, latches_held, latches_of, list_of, listed}
-use Rattle.latch_model.specs.Histories.{met, met_by, shot, snapshot_of, those_of}
+use Rattle.latch_model.specs.Histories.{HeldLatch, captures, in_front, in_order, in_waiting_order, latches_held, latches_of, list_of, listed}
+use Rattle.latch_model.specs.Histories.{met, met_by, shot, those_of}
 use Rattle.latch_model.specs.declared.latch.Access.{Access}
 use Rattle.latch_model.specs.declared.latch.Access.TheVariants.{Read, Write}
 use Rattle.latch_model.specs.declared.latch.Latch.{Latch}

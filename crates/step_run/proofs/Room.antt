@@ -1,10 +1,9 @@
 -- Each command adds two entries at most, and so the counts of a run stay far below their ends.
-use Rattle.std.proofs.Common.{◌≡◌, ℕ, zero, suc, ◌+◌, ◌<◌, ◌≤◌, Bool, true, false, cond, ◌==◌, ◌||◌, List, [], ◌∷◌, ◌++◌, length, map, Option, Some}
-use Rattle.std.proofs.Common.{None, refl, sym, ap, ◌∙◌, subst, arith}
+use Rattle.std.proofs.Common.{◌≡◌, ℕ, zero, suc, ◌+◌, ◌≤◌, Bool, true, false, cond, ◌==◌, ◌||◌, List, [], ◌∷◌, ◌++◌, length, Option, Some}
+use Rattle.std.proofs.Common.{None, refl, ap, subst, arith}
 use Rattle.std.specs.Prelude.{slice_get, slice_set}
 use Rattle.std.specs.List.{position, remove}
 use Rattle.std.proofs.lemmas.List.{length-append}
-use Rattle.latch_model.specs.Checks.{is_declared}
 use Rattle.latch_model.specs.Histories.{HeldLatch}
 use Rattle.latch_model.specs.declared.latch.Latch.{Latch}
 use Rattle.latch_model.specs.declared.latch.Mode.{Mode}
@@ -16,10 +15,10 @@ use Rattle.script.specs.Commands.{same_name}
 use Rattle.script.specs.declared.command.Command.{Command}
 use Rattle.script.specs.declared.command.Command.TheVariants.{Begin as Open, Wait, Check, Poison, Release, Metrics}
 use Rattle.step_run.specs.Room.{FitsCounts, FitsName, HasRoom, IsSmall}
-use Rattle.step_run.specs.Running.{Kept, Running, Stepped, Turned, at_kept, at_place, blocked_by, blocked_now, blocker, by_poisoned_now, check_now}
+use Rattle.step_run.specs.Running.{Kept, Running, Stepped, Turned, at_kept, at_place, blocker, by_poisoned_now, check_now}
 use Rattle.step_run.specs.Running.{checked_against, checked_now, decided_if}
-use Rattle.step_run.specs.Running.{ending_of, entries_of, first_turn_now, first_waiting, granted_now, is_over_stage, kept_line, new_kept, on_kept}
-use Rattle.step_run.specs.Running.{one_now, opening_now, poison_now}
+use Rattle.step_run.specs.Running.{ending_of, entries_of, first_turn_now, first_waiting, granted_now, is_over_stage, new_kept}
+use Rattle.step_run.specs.Running.{one_now, poison_now}
 use Rattle.step_run.specs.Running.{poisoned_met, released_now, spent, start_running, stepped, turn_at, turn_now, turned_at, waited_now, with_ending}
 use Rattle.step_run.specs.Running.{with_kept, with_lives, with_poison, without_check}
 use Rattle.step_run.specs.declared.live.Ending.{Ending}

@@ -1,6 +1,5 @@
 -- What keeps the counts of a step run within their range. A script has few commands, so that none of them passes its end.
-use Rattle.std.specs.Prelude.{◌≡◌, ℕ, ◌≤◌, List, length, slice_get, Some}
-use Rattle.latch_model.specs.declared.latch.Latch.{Latch}
+use Rattle.std.specs.Prelude.{◌≡◌, ℕ, ◌≤◌, length, slice_get, Some}
 use Rattle.latch_model.specs.declared.latch.TheConstants.Latches.{LIMIT as latch_limit}
 use Rattle.report.specs.declared.counts.Summary.{Summary}
 use Rattle.script.specs.declared.command.Command.{Command}

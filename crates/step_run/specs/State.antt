@@ -1,5 +1,5 @@
 -- The state of a step run: a history, and what is known of each live name.
-use Rattle.std.specs.Prelude.{ℕ, Bool, true, false, if◌then◌else◌, List, [], ◌∷◌, ◌++◌, Option, ◌==◌}
+use Rattle.std.specs.Prelude.{ℕ, Bool, false, if◌then◌else◌, List, [], ◌∷◌, ◌++◌, Option, ◌==◌}
 use Rattle.std.specs.List.{list_any}
 use Rattle.latch_model.specs.Checks.{has_cause}
 use Rattle.latch_model.specs.declared.latch.Latch.{Latch}

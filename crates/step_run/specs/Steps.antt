@@ -1,5 +1,5 @@
 -- The step output of a script: what each command writes, and the state that it leaves.
-use Rattle.std.specs.Prelude.{ℕ, ◌+◌, Bool, true, false, not, ◌&&◌, ◌||◌, ◌==◌, if◌then◌else◌, List, [], ◌∷◌, ◌++◌, length, Option, Some, None, codes, decimal}
+use Rattle.std.specs.Prelude.{ℕ, ◌+◌, Bool, true, false, not, ◌||◌, ◌==◌, if◌then◌else◌, List, [], ◌∷◌, ◌++◌, length, Option, Some, None, codes, decimal}
 use Rattle.std.specs.List.{filter, find, position}
 use Rattle.span_key.specs.declared.scopes.Scope.{Scope}
 use Rattle.span_key.specs.declared.scopes.Scope.TheVariants.{Global, Local}
