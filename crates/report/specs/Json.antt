@@ -1,7 +1,6 @@
 -- The report of a history as JSON: one object without spaces, its keys in the order of their bytes, and a line feed.
 use Rattle.std.specs.Prelude.{ℕ, ◌++◌, List, [], ◌∷◌, map, codes, decimal}
 use Rattle.std.specs.List.{join_with_byte}
-use Rattle.latch_model.specs.Declaration.{Declaration}
 use Rattle.latch_model.specs.Histories.{before}
 use Rattle.latch_model.specs.declared.latch.Latch.{Latch}
 use Rattle.latch_model.specs.declared.history.Entry.{Entry}

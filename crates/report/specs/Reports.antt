@@ -1,7 +1,6 @@
 -- The report of a history, version 1.
-use Rattle.std.specs.Prelude.{ℕ, ◌++◌, List, [], ◌∷◌, map, codes, decimal}
+use Rattle.std.specs.Prelude.{ℕ, ◌++◌, List, [], ◌∷◌, codes, decimal}
 use Rattle.std.specs.List.{flat_map}
-use Rattle.latch_model.specs.Declaration.{Declaration}
 use Rattle.latch_model.specs.Histories.{before}
 use Rattle.latch_model.specs.declared.latch.Latch.{Latch}
 use Rattle.latch_model.specs.declared.history.Cause.{Cause}

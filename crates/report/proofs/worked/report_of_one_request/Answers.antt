@@ -1,6 +1,5 @@
-use Rattle.std.proofs.Common.{◌≡◌, ◌∷◌, [], ℕ, List, decimal, refl, arith}
+use Rattle.std.proofs.Common.{◌≡◌, ◌∷◌, [], decimal, arith}
 use Rattle.std.proofs.lemmas.Fmt.{decimal_digit}
-use Rattle.hex.specs.Hex.{encode_lower}
 use Rattle.hex.proofs.OnLiterals.{hex_on_literals}
 use Rattle.report.proofs.worked.report_of_one_request.Goals as goal
 
