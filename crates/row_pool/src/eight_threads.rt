@@ -88,7 +88,8 @@ fn eight_meet<R: Threads + Sync>(
 /// The first seat takes the seven others in, the newest first.
 fn take_all_back(rows: &Rows, workers: [(RowSeat, Chain); 8]) -> (RowSeat, Chain)
     requires many { length workers ≡ 8 }
-    requires none { (i : ℕ) (d : SeatState × Chain) → i < 8 → (us : List ℕ) × Holding rows.now (slice_index_or workers i d).0 (slice_index_or workers i d).1 [] us }
+    requires none { (i : ℕ) (d : SeatState × Chain) → i < 8 → (us : List ℕ)
+        × Holding rows.now (slice_index_or workers i d).0 (slice_index_or workers i d).1 [] us }
     requires numbers { (d : SeatState × Chain) → ((slice_index_or workers 0 d).0.view.number ≡ 1)
         × ((i : ℕ) → 1 ≤ i → i < 8 → 2 ≤ (slice_index_or workers i d).0.view.number) }
     requires out { (d : SeatState × Chain) → (caps : ℕ → ℕ) × ((slice_index_or workers 0 d).0.view.out
