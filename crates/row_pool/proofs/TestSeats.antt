@@ -12,7 +12,7 @@ use Rattle.row_pool.specs.Changes.{tree_of, without_tree, with_ref, entry_of, ow
 use Rattle.row_pool.specs.Changes.{remaining, split_off}
 use Rattle.row_pool.specs.Numbers.{without_first}
 use Rattle.row_pool.specs.Views.{ViewInvariant, Reaches, by_ref}
-use Rattle.row_pool.specs.SeatState.{SeatState, SameSeat, OnlyEntriesChange}
+use Rattle.row_pool.specs.SeatState.{SeatState, SameSeat, OnlyEntriesChange, OnlyEntryChanges}
 use Rattle.row_pool.specs.Chains.{IsChain, ChainGrows, SplitAt, Disjoint}
 use Rattle.row_pool.specs.TestSeats.{Holding, HoldsRow}
 use Rattle.row_pool.specs.declared.chain.Chain.{Chain}
@@ -81,6 +81,17 @@ made v w x y r e t a b d =
       λ q n. ap (λ (v : SeatView). find q v.owned) all ∙ find-else q r (put r e v.owned) n ∙ sym (find-put q r e v.owned n),
       ap (λ (v : SeatView). find r v.owned) all ∙ find-without r (put r e v.owned),
       record { number = ap (λ (v : SeatView). v.number) all; out = ap (λ (v : SeatView). v.out) all; size = ap (λ (v : SeatView). v.size) all },
+    )
+
+-- an owned row changed, was turned and published
+pub made-of : (v x y z : SeatView) (r : ℕ) (e : Entry) (t : Tree) → OnlyEntryChanges r v x → y ≡ with_entry r e x → z ≡ published r t y
+    → (z.refs ≡ t ∷ v.refs) × ((q : ℕ) → q ≢ r → find q z.owned ≡ find q v.owned) × (find r z.owned ≡ none) × SameSeat v z
+made-of v x y z r e t o b d =
+    let m = made x x y z r e t refl b d in (
+      m.0 ∙ ap (λ ts. t ∷ ts) o.refs,
+      λ q n. m.1 q n ∙ o.others q n,
+      m.2,
+      record { number = m.3.number ∙ o.same_seat.number; out = m.3.out ∙ o.same_seat.out; size = m.3.size ∙ o.same_seat.size },
     )
 
 pub split-first : (rs : List ℕ) → 1 ≤ length rs → (r : ℕ) × (us : List ℕ) × (rs ≡ r ∷ us)
