@@ -1,6 +1,6 @@
 -- What the calls do to a seat that has references and one chain alone.
-use Rattle.std.proofs.Common.{◌≡◌, ◌≢◌, ◌⊎◌, ℕ, suc, true, true≢false, ◌<◌, ◌≤◌, List, [], ◌∷◌, ◌++◌, length, slice_index, sym, refl, ap, ◌∙◌, inl, inr}
-use Rattle.std.proofs.Common.{⊎_elim, arith}
+use Rattle.std.proofs.Common.{◌≡◌, ◌≢◌, ◌⊎◌, ℕ, zero, suc, true, true≢false, ◌<◌, ◌≤◌, List, [], ◌∷◌, ◌++◌, length, slice_index, slice_index_or, sym}
+use Rattle.std.proofs.Common.{refl, ap, ◌∙◌, inl, inr, ⊎_elim, eq-eqb, arith}
 use mathlib.Core.Option.{none, some, some-ne-none}
 use lib.ListN.{get_elem?}
 use Rattle.std.proofs.lemmas.Bool.Decides.{eqb_tells}
@@ -10,8 +10,9 @@ use Rattle.row_pool.specs.Trees.{Tree, Entry, tree_word, words_of, children, dep
 use Rattle.row_pool.specs.SeatView.{SeatView}
 use Rattle.row_pool.specs.Changes.{tree_of, without_tree, with_ref, entry_of, own_row, published, fresh, with_entry, put, joined}
 use Rattle.row_pool.specs.Changes.{remaining, split_off}
+use Rattle.row_pool.specs.Numbers.{without_first}
 use Rattle.row_pool.specs.Views.{ViewInvariant, Reaches, by_ref}
-use Rattle.row_pool.specs.SeatState.{SeatState, SameSeat, OnlyEntriesChange}
+use Rattle.row_pool.specs.SeatState.{SeatState, SameSeat, OnlyEntriesChange, OnlyEntryChanges}
 use Rattle.row_pool.specs.Chains.{IsChain, ChainGrows, SplitAt, Disjoint}
 use Rattle.row_pool.specs.TestSeats.{Holding, HoldsRow}
 use Rattle.row_pool.specs.declared.chain.Chain.{Chain}
@@ -80,6 +81,17 @@ made v w x y r e t a b d =
       λ q n. ap (λ (v : SeatView). find q v.owned) all ∙ find-else q r (put r e v.owned) n ∙ sym (find-put q r e v.owned n),
       ap (λ (v : SeatView). find r v.owned) all ∙ find-without r (put r e v.owned),
       record { number = ap (λ (v : SeatView). v.number) all; out = ap (λ (v : SeatView). v.out) all; size = ap (λ (v : SeatView). v.size) all },
+    )
+
+-- an owned row changed, was turned and published
+pub made-of : (v x y z : SeatView) (r : ℕ) (e : Entry) (t : Tree) → OnlyEntryChanges r v x → y ≡ with_entry r e x → z ≡ published r t y
+    → (z.refs ≡ t ∷ v.refs) × ((q : ℕ) → q ≢ r → find q z.owned ≡ find q v.owned) × (find r z.owned ≡ none) × SameSeat v z
+made-of v x y z r e t o b d =
+    let m = made x x y z r e t refl b d in (
+      m.0 ∙ ap (λ ts. t ∷ ts) o.refs,
+      λ q n. m.1 q n ∙ o.others q n,
+      m.2,
+      record { number = m.3.number ∙ o.same_seat.number; out = m.3.out ∙ o.same_seat.out; size = m.3.size ∙ o.same_seat.size },
     )
 
 pub split-first : (rs : List ℕ) → 1 ≤ length rs → (r : ℕ) × (us : List ℕ) × (rs ≡ r ∷ us)
@@ -202,3 +214,19 @@ held-split p s n c d r t ts rs is h table move on = record {
   };
   is = is;
 }
+
+-- what holds of a worker and of all after it
+pub all-cons : (P : SeatState × Chain → Type 0) (w : SeatState × Chain) (ws : List (SeatState × Chain)) → P w
+    → ((k : ℕ) (d : SeatState × Chain) → k < length ws → P (slice_index_or ws k d))
+    → (k : ℕ) (d : SeatState × Chain) → k < suc (length ws) → P (slice_index_or (w ∷ ws) k d)
+all-cons P w ws h all zero d low = h
+all-cons P w ws h all (suc k) d low = all k d (omega arith)
+
+-- the newest of the seats that are split off came back
+pub without-newest : (n cap : ℕ) (rest : List (ℕ × ℕ)) → without_first n ((n, cap) ∷ rest) ≡ rest
+without-newest n cap rest = rw (eq-eqb n n refl)
+
+pub at-any : (ws : List (SeatState × Chain)) (k : ℕ) (d e : SeatState × Chain) → k < length ws → slice_index_or ws k d ≡ slice_index_or ws k e
+at-any [] k d e low = absurd (omega arith)
+at-any (w ∷ ws) zero d e low = refl
+at-any (w ∷ ws) (suc k) d e low = at-any ws k d e (omega arith)
