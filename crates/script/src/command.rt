@@ -1,12 +1,11 @@
 // Commands and scripts.
-ghost use Rattle.std.specs.Prelude.{◌≡◌, ◌↔◌, ◌≤◌, IsTrue, IfSome, IfNone, IfOk, IfErr, length};
+ghost use Rattle.std.specs.Prelude.{◌≡◌, ◌≤◌, IsTrue, IfOk, length};
 ghost use Rattle.script.specs.Names as names;
 ghost use Rattle.script.specs.Scripts.{is_name};
-ghost use Rattle.script.specs.declared.fault.FieldFault.TheVariants.{Memory};
 
-use crate::fault::FieldFault;
 use crate::limits::COMMAND_LIMIT;
 use latch_model::latch::{Latches, Mode, Policy};
+use span_key::Memory;
 use std::alloc::Global;
 use std::marker::Model;
 
@@ -35,10 +34,9 @@ impl Name {
     ghost use Rattle.script.specs.Scripts.{is_name};
 
     // The name with these bytes.
-    pub(crate) fn new(alloc: Global, bytes: &[u8]) -> Result<Name, FieldFault>
+    pub(crate) fn new(alloc: Global, bytes: &[u8]) -> Result<Name, Memory>
         requires { IsTrue (is_name bytes.now) }
-        ensures made { IfOk result (λ n. n ≡ bytes.now) }
-        ensures refused { IfErr result (λ e. e ≡ Memory) }
+        ensures { IfOk result (λ n. n ≡ bytes.now) }
     {
         match str::from_utf8(bytes) {
             Ok(text) => Ok(Name {

@@ -1,11 +1,10 @@
 // The commands of a script that have been read so far, with what the rules over names and sessions ask of them.
-ghost use Rattle.std.specs.Prelude.{◌≡◌, ◌≤◌, ◌<◌, ◌==◌, nat_eq, [], ◌∷◌, ◌++◌, IfOk, IfErr, IfSome, List, OnOk, Some, None, false, if◌then◌else◌};
+ghost use Rattle.std.specs.Prelude.{◌≡◌, ◌≤◌, ◌<◌, ◌==◌, nat_eq, [], ◌∷◌, ◌++◌, IfOk, IfSome, List, OnOk, Some, None, false, if◌then◌else◌};
 ghost use Rattle.std.specs.Prelude.{option_map, slice_set, true, ℕ};
 ghost use Rattle.std.specs.HashMap.{get};
 ghost use Rattle.std.specs.List.{list_any};
 ghost use Rattle.script.specs.Commands.{is_busy, is_checkable, is_live, is_used, live_cause, rule_cause, same_name, some_live};
 ghost use Rattle.script.specs.Names.{KnowsNames, Keeps, ended, find, is_optimistic, waits};
-ghost use Rattle.script.specs.declared.fault.FieldFault.TheVariants.{Memory};
 ghost use Rattle.script.specs.Causes.{number_of};
 ghost use Rattle.script.specs.Reading.{ok_unless};
 ghost use Rattle.script.specs.declared.fault.FaultCause.TheVariants.{BusySession, NoCheck, NoOpenName, UsedName};
@@ -15,6 +14,7 @@ ghost use Rattle.script.specs.Scripts.{IsCommand};
 use crate::command::{Command, Name};
 use crate::fault::{FaultCause, FieldFault};
 use latch_model::latch::Mode;
+use span_key::Memory;
 use std::alloc::Global;
 use std::collections::HashMap;
 
@@ -148,13 +148,12 @@ impl Draft {
     }
 
     // What a command changes, but for the list of commands.
-    fn note(&mut self, command: &Command) -> Result<(), FieldFault>
+    fn note(&mut self, command: &Command) -> Result<(), Memory>
         requires kept { Keeps self.old }
         requires fits { IsCommand command.now }
         requires allowed { rule_cause self.old.commands.items command.now ≡ None }
         ensures same { self.new.commands ≡ self.old.commands }
         ensures follows { OnOk result (KnowsNames self.new (self.old.commands.items ++ command.now ∷ [])) }
-        ensures refused { IfErr result (λ e. e ≡ Memory) }
     {
         match command {
             Command::Begin {
@@ -178,12 +177,11 @@ impl Draft {
     }
 
     // A name is opened, and its session is busy.
-    fn open(&mut self, name: &Name, opened: Opened) -> Result<(), FieldFault>
+    fn open(&mut self, name: &Name, opened: Opened) -> Result<(), Memory>
         requires { opened.session ≤ 64 }
         ensures same { self.new.commands ≡ self.old.commands }
         ensures opened { OnOk result ((q : List ℕ) → find self.new q ≡ (if same_name name.now q then Some opened else find self.old q)) }
         ensures busy { OnOk result (self.new.busy ≡ slice_set self.old.busy opened.session true) }
-        ensures refused { IfErr result (λ e. e ≡ Memory) }
     {
         self.opened.insert(name.packed(), opened)?;
         self.busy[opened.session as usize] = true;

@@ -1,5 +1,5 @@
 // What one field of a line spells: a number, a name, a policy or a latch.
-ghost use Rattle.std.specs.Prelude.{◌≡◌, ◌≤◌, true, false, drop, length, Option, Some, None, Ok, IfSome, IfOk, IfErr, MatchOption};
+ghost use Rattle.std.specs.Prelude.{◌≡◌, ◌≤◌, true, false, drop, length, Option, Some, None, Ok, IfSome, IfOk, MatchOption};
 ghost use Rattle.std.specs.Char.{is_ascii_digit};
 ghost use Rattle.std.specs.Str.{bytes_eq};
 ghost use Rattle.std.specs.List.{before_first, after_first, list_all, position};
@@ -10,7 +10,6 @@ ghost use Rattle.script.specs.Scripts as scripts;
 ghost use Rattle.script.specs.Scripts.{IsScriptLatch};
 ghost use Rattle.script.specs.Texts.{latch_text};
 ghost use Rattle.latch_model.specs.declared.latch.Latch.{Latch as AnyLatch};
-ghost use Rattle.script.specs.declared.fault.FieldFault.TheVariants.{Memory};
 ghost use Rattle.script.specs.Causes.{number_of};
 ghost use Rattle.script.specs.Outcomes.{Gives};
 
@@ -20,7 +19,7 @@ use crate::limits::KEY_LIMIT;
 use hex::FromHexError;
 use hlc_stamp::Stamp;
 use latch_model::latch::{Access, Latch, Policy};
-use span_key::{Key, Span};
+use span_key::{Key, Memory, Span};
 use std::alloc::Global;
 
 /// Whether a text is this word.
@@ -107,7 +106,7 @@ pub(crate) fn name(alloc: Global, text: &[u8]) -> Result<Name, FieldFault>
     if !is_name(text) {
         return Err(FaultCause::NoName.fault());
     }
-    Name::new(alloc, text)
+    Ok(Name::new(alloc, text)?)
 }
 
 /// The policy that a field spells.
@@ -242,14 +241,13 @@ fn bounded(alloc: Global, bounds: Bounds) -> Result<Span, FieldFault>
     }
 }
 
-fn key_of(alloc: Global, bytes: &[u8]) -> Result<Key, FieldFault>
+fn key_of(alloc: Global, bytes: &[u8]) -> Result<Key, Memory>
     requires { length bytes.now ≤ KEY_LIMIT }
-    ensures made { IfOk result (λ k. k ≡ bytes.now) }
-    ensures refused { IfErr result (λ e. e ≡ Memory) }
+    ensures { IfOk result (λ k. k ≡ bytes.now) }
 {
     match Key::new(alloc, bytes) {
         Ok(key) => Ok(key),
-        Err(_) => Err(FieldFault::Memory),
+        Err(_) => Err(Memory),
     }
 }
 
