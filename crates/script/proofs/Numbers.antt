@@ -1,17 +1,11 @@
--- Texts of decimal digits, as `parse` reads them.
-use Rattle.std.proofs.Common.{◌≡◌, ℕ, ◌^◌, ◌<◌, ◌≤◌, Bool, true, false, not, ◌&&◌, eqb, leb, List, [], ◌∷◌, length, None, Result, Ok, Err, refl, arith}
-use Rattle.std.proofs.Common.{rules, inl, inr}
-use Rattle.std.specs.Char.{is_ascii_digit}
+-- Texts of decimal digits: that they are numerals, and what they write as far as they are read.
+use Rattle.std.proofs.Common.{◌≡◌, ℕ, suc, ◌+◌, ◌*◌, ◌-◌, ◌^◌, ◌<◌, ◌≤◌, true, List, [], ◌∷◌, length, drop, get_or, ap, ◌∙◌, rules, arith}
+use Rattle.std.proofs.Math.Seq.{drop-cons}
+use Rattle.std.specs.Char.{is_ascii_digit, digit_value}
 use Rattle.std.specs.List.{list_all}
-use Rattle.std.specs.Str.{IsUtf8}
-use Rattle.std.specs.Str.Parse.{digits_value, ParsesUnsigned}
-use Rattle.std.proofs.lemmas.Bool.{cases_lt}
+use Rattle.std.specs.Str.Parse.{digits_value, digits_value_after}
 use Rattle.std.proofs.lemmas.Bool.Decides.{nat_tests}
-use Rattle.std.proofs.lemmas.Fmt.{IsAscii-from_digits}
-use Rattle.std.proofs.lemmas.Result.{OkIff-at_ok, OkIff-at_err}
-use Rattle.std.proofs.lemmas.Str.{IsUtf8-from_ascii}
-use Rattle.std.proofs.lemmas.Str.Parse.{IsNumeralModel, IsDigitsTest, numerals_by_value, parse_digits}
-use Rattle.script.specs.Fields.{is_decimal, number_at}
+use Rattle.std.proofs.lemmas.Str.Parse.{IsNumeralModel, IsDigitsTest, numerals_by_value}
 
 tells : IsDigitsTest (λ ds. list_all is_ascii_digit ds ≡ true)
 tells = search rules
@@ -19,40 +13,21 @@ tells = search rules
 pub own : IsNumeralModel (λ ds. list_all is_ascii_digit ds ≡ true) (digits_value 10)
 own = numerals_by_value (λ ds. list_all is_ascii_digit ds ≡ true) tells
 
-and_true : (b : Bool) → b ≡ true → (b && true) ≡ true
-and_true true e = refl
-and_true false e = e
+-- a digit's value
+digit_is : (c : ℕ) → is_ascii_digit c ≡ true → digit_value c ≡ c - 48
+digit_is c digit = grind (arith, nat_tests)
 
-and_second : (a b : Bool) → (a && b) ≡ true → b ≡ true
-and_second true b e = e
-and_second false b e = absurd cc
+-- what digits write goes on from the number so far, and so is no less
+after-le : (n : ℕ) (ds : List ℕ) → n ≤ digits_value_after 10 n ds
+after-le n [] = omega arith
+after-le n (c ∷ cs) = omega (arith, after-le (n * 10 + digit_value c) cs)
 
-past_from : (text : List ℕ) → 0 < length text → ¬ ((0 < length text) × (digits_value 10 text < 2 ^ 64)) → 2 ^ 64 ≤ digits_value 10 text
-past_from text long h =
-    elim (cases_lt (digits_value 10 text) (2 ^ 64)) [ inl lt ↦ absurd (h (long, lt)) | inr le ↦ le ]
-
--- a decimal number has one digit or more, and nothing else
-pub all_digits : (text : List ℕ) → is_decimal text ≡ true → (list_all is_ascii_digit text ≡ true) × (0 < length text)
-all_digits [] e = absurd cc
-all_digits (c ∷ []) e = (and_true (is_ascii_digit c) e, omega arith)
-all_digits (c ∷ d ∷ ds) e = (and_second (not (eqb c 48)) (list_all is_ascii_digit (c ∷ d ∷ ds)) e, omega arith)
-
-pub is_text : (text : List ℕ) → is_decimal text ≡ true → IsUtf8 text
-is_text text e = IsUtf8-from_ascii text (IsAscii-from_digits text (own.to text (all_digits text e).0))
-
--- what `parse` gives is the number that the digits write
-pub value_is : {E : Type 0} (text : List ℕ) (r : Result ℕ E) (n : ℕ) → ParsesUnsigned 64 10 text r → is_decimal text ≡ true → r ≡ Ok n
-    → n ≡ digits_value 10 text
-value_is text r n h e is = (OkIff-at_ok r _ (digits_value 10 text) n (parse_digits own 64 text r h (all_digits text e).0) is).1
-
--- and where it fails, that number is past 64 bits, and so past each range
-pub too_large : {E : Type 0} (low high : ℕ) (text : List ℕ) (r : Result ℕ E) (x : E) → ParsesUnsigned 64 10 text r → is_decimal text ≡ true → r ≡ Err x
-    → high < 2 ^ 64
-    → None ≡ number_at low high text
-unfolding number_at
-too_large low high text r x h e is fits =
-    let d = all_digits text e in
-    let not_both : ¬ ((0 < length text) × (digits_value 10 text < 2 ^ 64)) = OkIff-at_err r _ (digits_value 10 text) x (parse_digits own 64 text r h d.0) is in
-    let past : 2 ^ 64 ≤ digits_value 10 text = past_from text d.1 not_both in
-    let out : leb (digits_value 10 text) high ≡ false = grind (arith, nat_tests) in
-    grind (arith, nat_tests)
+-- a number that is past 64 bits with the next digit stays so
+pub past_end : (text : List ℕ) (i n : ℕ) → i < length text → digits_value 10 text ≡ digits_value_after 10 n (drop i text) →
+    is_ascii_digit (get_or text i 0) ≡ true → 2 ^ 64 ≤ n * 10 + (get_or text i 0 - 48) → 2 ^ 64 ≤ digits_value 10 text
+past_end text i n inside value digit past =
+    let next : digits_value_after 10 n (drop i text) ≡ digits_value_after 10 (n * 10 + digit_value (get_or text i 0)) (drop (suc i) text) =
+    ap (digits_value_after 10 n) (drop-cons text i 0 inside) in
+    let low = after-le (n * 10 + digit_value (get_or text i 0)) (drop (suc i) text) in
+    let is : digit_value (get_or text i 0) ≡ get_or text i 0 - 48 = digit_is (get_or text i 0) digit in
+    omega (arith, value, next, low, is)

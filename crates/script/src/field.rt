@@ -1,7 +1,8 @@
 // What one field of a line spells: a number, a name, a policy or a latch.
-ghost use Rattle.std.specs.Prelude.{◌≡◌, ◌≤◌, true, false, drop, length, Option, Some, None, Ok, IfSome, IfOk, MatchOption};
+ghost use Rattle.std.specs.Prelude.{◌≡◌, ◌+◌, ◌*◌, ◌≤◌, ◌^◌, ◌⊎◌, ◌&&◌, true, false, drop, length, Option, Some, None, Ok, IfSome, IfOk, MatchOption};
 ghost use Rattle.std.specs.Char.{is_ascii_digit};
 ghost use Rattle.std.specs.Str.{bytes_eq};
+ghost use Rattle.std.specs.Str.Parse.{digits_value};
 ghost use Rattle.std.specs.List.{before_first, after_first, list_all, position};
 ghost use Rattle.script.specs.Fields.{access_at, bounded_at, bytes_at, has_byte, is_byte, latch_at, name_at, number_at, or_cause, timed_at, policy_at};
 ghost use Rattle.script.specs.Fields.{span_at, stamp_at};
@@ -46,21 +47,44 @@ fn index_of(text: &[u8], c: u8) -> Option<usize>
     text.iter().position(|b| *b == c)
 }
 
-// One digit or more, and no leading zero but that of zero itself.
-fn is_decimal(text: &[u8]) -> bool
-    ensures { result ≡ spec.is_decimal text.now }
+// The number that a text of digits writes, where it fits 64 bits. Each byte is looked at once.
+fn digits(text: &[u8]) -> Option<u64>
+    ensures { MatchOption result ((list_all is_ascii_digit text.now ≡ false) ⊎ (2 ^ 64 ≤ digits_value 10 text.now))
+        (λ n. (list_all is_ascii_digit text.now ≡ true) × (n ≡ digits_value 10 text.now)) }
+{
+    let mut n = 0u64;
+    for byte in text {
+        let c = *byte;
+        if !c.is_ascii_digit() {
+            return None;
+        }
+        let Some(more) = with_digit(n, c - b'0') else {
+            return None;
+        };
+        n = more;
+    }
+    Some(n)
+}
+
+// A number with one more digit behind it, where that fits 64 bits.
+fn with_digit(n: u64, digit: u8) -> Option<u64>
+    ensures { MatchOption result (2 ^ 64 ≤ n * 10 + digit) (λ m. m ≡ n * 10 + digit) }
+{
+    let Some(tenfold) = n.checked_mul(10) else {
+        return None;
+    };
+    tenfold.checked_add(u64::from(digit))
+}
+
+// Whether a text begins as a decimal number does: it is not empty, and begins with 0 only where that is all.
+fn begins_decimal(text: &[u8]) -> bool
+    ensures { spec.is_decimal text.now ≡ (result && list_all is_ascii_digit text.now) }
 {
     match text {
         [] => false,
-        [only] => only.is_ascii_digit(),
-        [first, _, ..] => *first != b'0' && all_digits(text),
+        [_] => true,
+        [first, _, ..] => *first != b'0',
     }
-}
-
-fn all_digits(text: &[u8]) -> bool
-    ensures { result ≡ list_all is_ascii_digit text.now }
-{
-    text.iter().all(|b| b.is_ascii_digit())
 }
 
 /// The decimal number from `low` to `high` that a text spells.
@@ -69,15 +93,10 @@ pub(crate) fn number(low: u64, high: u64, text: &[u8]) -> Option<u64>
     ensures value { result ≡ number_at low high text.now }
     ensures range { IfSome result (λ n. (low ≤ n) × (n ≤ high)) }
 {
-    if !is_decimal(text) {
+    if !begins_decimal(text) {
         return None;
     }
-    let Ok(digits) = str::from_utf8(text) else {
-        return None;
-    };
-    let Ok(n) = digits.parse::<u64>() else {
-        return None;
-    };
+    let n = digits(text)?;
     if low <= n && n <= high { Some(n) } else { None }
 }
 

@@ -170,12 +170,14 @@ fn lines_are_refused_at_their_first_fault(rt: HostRuntime) -> Result<(), Fail> {
 
 #[test]
 fn scripts_are_spelled_as_they_were_read(rt: HostRuntime) -> Result<(), Fail> {
-    let rows: [&[u8]; 6] = [
+    let rows: [&[u8]; 8] = [
         b"",
         b"metrics",
         b"acquire 1 a wait w:61\nrelease a",
-        b"acquire 1 put error r:016b7a w:7a31@100\nacquire 2 scan error r:7a30-7a39@99\nacquire 3 get error r:7a31@120\nacquire 4 split error w:016b7a w:7a00-7aff\nrelease put\nwait get\nwait split\nrelease scan\nwait split\nrelease get\nwait split\nrelease split",
-        b"optimistic 64 abcdefghijklmnop wait turns=1000000 r:61@18446744073709551615.4294967295 w:00-ff@0.5\ncheck abcdefghijklmnop\ncheck abcdefghijklmnop r:61\npoison abcdefghijklmnop\nwait abcdefghijklmnop\nrelease abcdefghijklmnop",
+        b"acquire 1 put error r:016b7a w:7a31@100\nacquire 2 scan error r:7a30-7a39@99\nrelease put\nwait scan\nrelease scan",
+        b"acquire 3 get error r:7a31@120\nacquire 4 split error w:016b7a w:7a00-7aff\nrelease get\nwait split\nrelease split",
+        b"optimistic 64 abcdefghijklmnop wait turns=1000000 r:61@18446744073709551615.4294967295 w:00-ff@0.5\nrelease abcdefghijklmnop",
+        b"optimistic 1 a wait r:61\ncheck a\ncheck a r:61\npoison a\nwait a\nrelease a",
         b"look 1 a error turns=1\nrelease a\nacquire 1 b wait\nacquire 2 c wait\nrelease c\nacquire 2 d wait\nrelease b\nrelease d",
     ];
     for lines in rows {

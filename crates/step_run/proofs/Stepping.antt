@@ -32,7 +32,8 @@ use Rattle.step_run.specs.State.{Granted, Named, Optimistic, Over, Pending, Phas
 use Rattle.latch_model.specs.Checks.{is_declared}
 use Rattle.latch_model.specs.Metrics.{held_count, pending_count, writes_in}
 use Rattle.step_run.specs.Steps.{Step, checked, checked_unless, counts_text, first_phase, first_turn, is_over, line, met_first, metrics_line}
-use Rattle.step_run.specs.Steps.{new_name, on_found, on_name, one, opening, passed_grant, poisoned, released, released_state, silent, turn, waited}
+use Rattle.step_run.specs.Steps.{new_name, on_found, on_name, one, opening, poisoned, released, released_state, silent, turn, waited}
+use Rattle.script.specs.Follows.{passed_grant}
 use Rattle.step_run.specs.Steps.{with_new}
 use Rattle.step_run.specs.Running.{Kept, Running, Stepped, Turned, at_kept, at_place, check_now, checked_against, checked_now, count_now, counts_now}
 use Rattle.step_run.specs.Running.{ending_of, entries_of, first_turn_now, held_from, kept_line, kept_silent, metrics_now, new_kept, on_kept, one_now}

@@ -19,6 +19,7 @@ use Rattle.latch_model.specs.declared.history.Fault.TheVariants.{None as no_faul
 use Rattle.latch_model.specs.declared.history.Grant.{Grant}
 use Rattle.latch_model.specs.declared.history.Grant.TheVariants.{Never, Waited, Checked}
 use Rattle.report.specs.Words.{mark_text, numbers_text, summary_line}
+use Rattle.script.specs.Follows.{passed_grant}
 use Rattle.script.specs.Commands.{same_name}
 use Rattle.script.specs.declared.command.Command.{Command}
 use Rattle.script.specs.declared.command.Command.TheVariants.{Begin as Open, Wait, Check, Poison, Release, Metrics}
@@ -166,10 +167,6 @@ poisoned n s =
     else record { written = line n (codes "poisons"); state = with_name (record n { cause = Called }) s }
 
 -- Releasing: a request that is not over ends, with the grant that its phase gives it, and its name is no longer live.
-abbrev pub passed_grant : Option (List Latch) → Grant
-passed_grant None = Never
-passed_grant (Some asked) = Checked asked
-
 abbrev pub released_state : Phase → Named → State → State
 released_state Optimistic n s = ended (passed_grant n.passed) no_fault n s
 released_state Pending n s = ended Never no_fault n s
