@@ -13,8 +13,8 @@ use Rattle.row_pool.specs.Views.{by_link, below, Reaches, ViewInvariant}
 use Rattle.row_pool.specs.StepEffects.{Unchanged}
 use Rattle.row_pool.specs.SeatState.{OwnsOrReaches, OwnsOrReachesAs, LinkAt, SeatInvariant, kind_of}
 use Rattle.row_pool.proofs.Words.{at-length, at-some, fan-most}
-use Rattle.row_pool.proofs.Writes.{given-length}
-use Rattle.row_pool.proofs.Splits.{taken-shorter}
+use Rattle.row_pool.proofs.Writes.{with_old_target-length}
+use Rattle.row_pool.proofs.Splits.{without_tree-shorter}
 
 -- a row that a seat reaches or owns is in the pool
 pub reachable-inside : (v : SeatView) (r : ℕ) → ViewInvariant v → OwnsOrReaches v r → r < v.size
@@ -25,9 +25,9 @@ pub reachable-as : (P : ℕ → Type 0) (v : SeatView) (r : ℕ) → OwnsOrReach
 reachable-as P v r (inl t) = inl (t.0, t.1, t.2)
 reachable-as P v r (inr e) = inr (e.0, e.1)
 
-pub good-still : {S : Type 0} {table next : TableId} {me now : Me S SeatView} → SeatInvariant table me → next ≡ table → Unchanged me now
+pub invariant-kept : {S : Type 0} {table next : TableId} {me now : Me S SeatView} → SeatInvariant table me → next ≡ table → Unchanged me now
     → SeatInvariant next now
-good-still h same s = record {
+invariant-kept h same s = record {
   empty = s.kept ∙ h.empty;
   words = let a = ap (λ (t : TableId). t.words) same in let b = h.words in let c = s.size in omega arith;
   sound = s.sound;
@@ -35,10 +35,10 @@ good-still h same s = record {
 }
 
 -- the seat fits the pool, and a word of a row that it is near to is in it
-pub at-word : {S : Type 0} {table pool : TableId} {me : Me S SeatView} → SeatInvariant table me → table ≡ pool → (r w j : ℕ) → OwnsOrReaches me.0 r
+pub word-inside : {S : Type 0} {table pool : TableId} {me : Me S SeatView} → SeatInvariant table me → table ≡ pool → (r w j : ℕ) → OwnsOrReaches me.0 r
     → w < 80 → j ≡ r * 80 + w
     → j < pool.words
-at-word {me = me} h same r w j reachable low place = let a = ap (λ (t : TableId). t.words) same in let b = reachable-inside me.0 r h.sound reachable in
+word-inside {me = me} h same r w j reachable low place = let a = ap (λ (t : TableId). t.words) same in let b = reachable-inside me.0 r h.sound reachable in
     let c = h.words in
     omega arith
 
@@ -52,9 +52,10 @@ named-most v nil h up = omega arith
 named-most v (row r ws ks) h up = let a = h.trees (row r ws ks) up (omega arith) in let b = a.inside in let c = h.most in omega arith
 
 -- the same where the view has changed before the load
-pub good-after : {S : Type 0} {table next : TableId} {me now : Me S SeatView} → SeatInvariant table me → next ≡ table → (mid : Me S SeatView) → mid.1 ≡ me.1
+pub invariant-after : {S : Type 0} {table next : TableId} {me now : Me S SeatView} → SeatInvariant table me → next ≡ table → (mid : Me S SeatView)
+    → mid.1 ≡ me.1
     → mid.0.size ≡ me.0.size → mid.0.number ≢ 0 → Unchanged mid now → SeatInvariant next now
-good-after h same mid kept size unspent s = record {
+invariant-after h same mid kept size unspent s = record {
   empty = s.kept ∙ kept ∙ h.empty;
   words = let a = ap (λ (t : TableId). t.words) same in let b = h.words in let c = s.size in omega arith;
   sound = s.sound;
@@ -79,16 +80,16 @@ as-tree P v r t h (inr d) up is = absurd (some-ne-none d.0 (sym d.1 ∙ h.apart 
 -- the references after a link was moved are no more than there may be
 pub swap-room : (y : ℕ) (u : Tree) (v : SeatView) → ViewInvariant v → tree_word (target_of y v.refs) ≡ y → (y ≡ 0 → length v.refs < 2 ^ 32)
     → length (with_old_target u (without_target (target_of y v.refs) v.refs)) ≤ 2 ^ 32
-swap-room zero u v h is room = let a = given-length u v.refs in let b = room refl in omega arith
+swap-room zero u v h is room = let a = with_old_target-length u v.refs in let b = room refl in omega arith
 swap-room (suc r) u v h is room =
-    let a = given-length u (without_target (tree_of r v.refs) v.refs) in
-    let b = handed-shorter r (tree_of r v.refs) v.refs is (taken-shorter r v.refs is) in
+    let a = with_old_target-length u (without_target (tree_of r v.refs) v.refs) in
+    let b = without_target-shorter r (tree_of r v.refs) v.refs is (without_tree-shorter r v.refs is) in
     let d = h.few in omega arith
   where
-    handed-shorter : (r : ℕ) (t : Tree) (ts : List Tree) → tree_word t ≡ suc r → suc (length (without_tree r ts)) ≡ length ts
+    without_target-shorter : (r : ℕ) (t : Tree) (ts : List Tree) → tree_word t ≡ suc r → suc (length (without_tree r ts)) ≡ length ts
         → suc (length (without_target t ts)) ≡ length ts
-    handed-shorter r nil ts is h = absurd (omega arith)
-    handed-shorter r (row q ws ks) ts is h = let z : r ≡ q = omega arith in subst (λ q. suc (length (without_tree q ts)) ≡ length ts) z h
+    without_target-shorter r nil ts is h = absurd (omega arith)
+    without_target-shorter r (row q ws ks) ts is h = let z : r ≡ q = omega arith in subst (λ q. suc (length (without_tree q ts)) ≡ length ts) z h
 
 -- a counted link is one of the row's words
 pub follow-low : (v : SeatView) (r w : ℕ) → OwnsOrReachesAs (λ kind. IsLink kind w) v r → w < 80

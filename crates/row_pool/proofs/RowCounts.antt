@@ -25,7 +25,7 @@ in-left : (r : ℕ) (l m : List ℕ) → In r l → In r (l ++ m)
 in-left r [] m h = absurd (true≢false (sym h))
 in-left r (q ∷ qs) m h = ⊎_elim (λ t. rw t.0 refl) (λ t. rw t.0 (in-left r qs m (rw t.0 at h))) (eqb_tells q r)
 
-in-right : (r : ℕ) (l m : List ℕ) → In r m → In r (l ++ m)
+pub in-right : (r : ℕ) (l m : List ℕ) → In r m → In r (l ++ m)
 in-right r [] m h = h
 in-right r (q ∷ qs) m h = ⊎_elim (λ t. rw t.0 refl) (λ t. rw t.0 (in-right r qs m h)) (eqb_tells q r)
 
@@ -34,16 +34,16 @@ in-flat f [] k x r e h = absurd (some-ne-none x (sym e))
 in-flat f (y ∷ ys) zero x r e h = in-left r (f y) (concat_map f ys) (subst (λ z. In r (f z)) (sym (some-injective y x e)) h)
 in-flat f (y ∷ ys) (suc k) x r e h = in-right r (f y) (concat_map f ys) (in-flat f ys k x r e h)
 
-in-kids : (ts : Trees) (k : ℕ) (u : Tree) (r : ℕ) → get_elem? (children_of ts) k ≡ some u → In r (rows_in u) → In r (rows_of ts)
-in-kids no_trees k u r e h = absurd (some-ne-none u (sym e))
-in-kids (next t ts) zero u r e h = in-left r (rows_in t) (rows_of ts) (subst (λ z. In r (rows_in z)) (sym (some-injective t u e)) h)
-in-kids (next t ts) (suc k) u r e h = in-right r (rows_in t) (rows_of ts) (in-kids ts k u r e h)
+in-children : (ts : Trees) (k : ℕ) (u : Tree) (r : ℕ) → get_elem? (children_of ts) k ≡ some u → In r (rows_in u) → In r (rows_of ts)
+in-children no_trees k u r e h = absurd (some-ne-none u (sym e))
+in-children (next t ts) zero u r e h = in-left r (rows_in t) (rows_of ts) (subst (λ z. In r (rows_in z)) (sym (some-injective t u e)) h)
+in-children (next t ts) (suc k) u r e h = in-right r (rows_in t) (rows_of ts) (in-children ts k u r e h)
 
-in-kid : (t : Tree) (k : ℕ) (u : Tree) (r : ℕ) → get_elem? (children t) k ≡ some u → In r (rows_in u) → In r (rows_in t)
-in-kid nil k u r e h = absurd (some-ne-none u (sym e))
-in-kid (row q ws ts) k u r e h = ⊎_elim (λ t. rw t.0 refl) (λ t. rw t.0 (in-kids ts k u r e h)) (eqb_tells q r)
+in-child : (t : Tree) (k : ℕ) (u : Tree) (r : ℕ) → get_elem? (children t) k ≡ some u → In r (rows_in u) → In r (rows_in t)
+in-child nil k u r e h = absurd (some-ne-none u (sym e))
+in-child (row q ws ts) k u r e h = ⊎_elim (λ t. rw t.0 refl) (λ t. rw t.0 (in-children ts k u r e h)) (eqb_tells q r)
 
-in-owned : (ps : List (ℕ × Entry)) (q : ℕ) (e : Entry) (r : ℕ) → find q ps ≡ some e → In r (entry_rows (q, e)) → In r (concat_map entry_rows ps)
+pub in-owned : (ps : List (ℕ × Entry)) (q : ℕ) (e : Entry) (r : ℕ) → find q ps ≡ some e → In r (entry_rows (q, e)) → In r (concat_map entry_rows ps)
 in-owned [] q e r f h = absurd (some-ne-none e (sym f))
 in-owned (p ∷ ps) q e r f h = ⊎_elim (λ t. let is = some-injective p.1 e (rw t.0 at f) in in-left r (entry_rows p) (concat_map entry_rows ps)
     (subst (λ (z : ℕ × Entry). In r (entry_rows z)) (λ i. (sym t.1 i, sym is i)) h))
@@ -54,7 +54,7 @@ pub in-reached : (v : SeatView) (t : Tree) (r : ℕ) → Reaches v t → In r (r
 in-reached v t r (by_ref k e) h = in-left r (concat_map rows_in v.refs) (concat_map entry_rows v.owned) (in-flat rows_in v.refs k t r e h)
 in-reached v t r (by_link q e k f g) h = in-right r (concat_map rows_in v.refs) (concat_map entry_rows v.owned)
     (in-owned v.owned q e r f (⊎_elim (λ z. rw z.0 refl) (λ z. rw z.0 (in-flat link_rows e.links k (Link.to t) r g h)) (eqb_tells q r)))
-in-reached v t r (below {t = u} k up g) h = in-reached v u r up (in-kid u k t r g h)
+in-reached v t r (below {t = u} k up g) h = in-reached v u r up (in-child u k t r g h)
 
 module _ {A : Type 0} where
   total-nothing : (l : List A) → total (λ x. 0) l ≡ 0
@@ -113,18 +113,19 @@ in-head r q l h = ⊎_elim (λ t. inl t.1) (λ t. inr (rw t.0 at h)) (eqb_tells 
 without-in : (r q : ℕ) (ps : List (ℕ × Entry)) → In r (concat_map entry_rows (without q ps)) → In r (concat_map entry_rows ps)
 without-in r q [] h = h
 without-in r q (p ∷ ps) h = ⊎_elim (λ t. in-right r (entry_rows p) (concat_map entry_rows ps) (without-in r q ps (rw t.0 at h)))
-    (λ t. ⊎_elim (λ a. in-left r (entry_rows p) (concat_map entry_rows ps) a) (λ b. in-right r (entry_rows p) (concat_map entry_rows ps) (without-in r q ps b))
+    (λ t. ⊎_elim (λ a. in-left r (entry_rows p) (concat_map entry_rows ps) a) (λ b. in-right r (entry_rows p) (concat_map entry_rows ps)
+    (without-in r q ps b))
     (in-append r (entry_rows p) (concat_map entry_rows (without q ps)) (rw t.0 at h))) (eqb_tells p.0 q)
 
-take-in : (r q : ℕ) (ts : List Tree) → In r (concat_map rows_in (without_tree q ts)) → In r (concat_map rows_in ts)
-take-in r q [] h = h
-take-in r q (t ∷ ts) h = ⊎_elim (λ b. in-right r (rows_in t) (concat_map rows_in ts) (rw b.0 at h))
-    (λ b. ⊎_elim (λ a. in-left r (rows_in t) (concat_map rows_in ts) a) (λ c. in-right r (rows_in t) (concat_map rows_in ts) (take-in r q ts c))
+without_tree-in : (r q : ℕ) (ts : List Tree) → In r (concat_map rows_in (without_tree q ts)) → In r (concat_map rows_in ts)
+without_tree-in r q [] h = h
+without_tree-in r q (t ∷ ts) h = ⊎_elim (λ b. in-right r (rows_in t) (concat_map rows_in ts) (rw b.0 at h))
+    (λ b. ⊎_elim (λ a. in-left r (rows_in t) (concat_map rows_in ts) a) (λ c. in-right r (rows_in t) (concat_map rows_in ts) (without_tree-in r q ts c))
     (in-append r (rows_in t) (concat_map rows_in (without_tree q ts)) (rw b.0 at h))) (eqb_tells (tree_word t) (suc q))
 
-kids-in : (ts : Trees) (r : ℕ) → In r (concat_map link_rows (map Link.to (children_of ts))) → In r (rows_of ts)
-kids-in no_trees r h = h
-kids-in (next t ts) r h = ⊎_elim (λ a. in-left r (rows_in t) (rows_of ts) a) (λ b. in-right r (rows_in t) (rows_of ts) (kids-in ts r b))
+children-rows : (ts : Trees) (r : ℕ) → In r (concat_map link_rows (map Link.to (children_of ts))) → In r (rows_of ts)
+children-rows no_trees r h = h
+children-rows (next t ts) r h = ⊎_elim (λ a. in-left r (rows_in t) (rows_of ts) a) (λ b. in-right r (rows_in t) (rows_of ts) (children-rows ts r b))
     (in-append r (rows_in t) (concat_map link_rows (map Link.to (children_of ts))) h)
 
 -- what a seat has after a step it had before
@@ -141,20 +142,21 @@ old-refs v r h = in-left r (concat_map rows_in v.refs) (concat_map entry_rows v.
 old-owned : (v : SeatView) (r : ℕ) → In r (concat_map entry_rows v.owned) → In r (rows_of_view v)
 old-owned v r h = in-right r (concat_map rows_in v.refs) (concat_map entry_rows v.owned) h
 
-pub within-hold : (v : SeatView) (t : Tree) → Reaches v t → Within (with_ref t v) v
-within-hold v t up = parts v (with_ref t v) (λ r h. ⊎_elim (in-reached v t r up) (old-refs v r) (in-append r (rows_in t) (concat_map rows_in v.refs) h))
+pub within-with_ref : (v : SeatView) (t : Tree) → Reaches v t → Within (with_ref t v) v
+within-with_ref v t up = parts v (with_ref t v) (λ r h. ⊎_elim (in-reached v t r up) (old-refs v r) (in-append r (rows_in t) (concat_map rows_in v.refs) h))
     (old-owned v)
 
-pub within-lower : (v : SeatView) (q : ℕ) → Within (without_ref q v) v
-within-lower v q = parts v (without_ref q v) (λ r h. old-refs v r (take-in r q v.refs h)) (old-owned v)
+pub within-without_ref : (v : SeatView) (q : ℕ) → Within (without_ref q v) v
+within-without_ref v q = parts v (without_ref q v) (λ r h. old-refs v r (without_tree-in r q v.refs h)) (old-owned v)
 
 entry-in : (t : Tree) (q own : ℕ) (r : ℕ) → tree_word t ≡ suc q → In r (entry_rows (q, entry_of t own 0)) → In r (rows_in t)
 entry-in nil q own r is h = absurd (omega arith)
 entry-in (row p ws ts) q own r is h = ⊎_elim (λ (z : q ≡ r). let e : p ≡ r = omega arith in rw (eq-eqb p r e) refl)
-    (λ b. ⊎_elim (λ t. rw t.0 refl) (λ t. rw t.0 (kids-in ts r b)) (eqb_tells p r)) (in-head r q (concat_map link_rows (map Link.to (children_of ts))) h)
+    (λ b. ⊎_elim (λ t. rw t.0 refl) (λ t. rw t.0 (children-rows ts r b)) (eqb_tells p r)) (in-head r q (concat_map link_rows (map Link.to
+    (children_of ts))) h)
 
-pub within-seize : (v : SeatView) (t : Tree) (q own : ℕ) → tree_word t ≡ suc q → Reaches v t → Within (own_row t q own v) v
-within-seize v t q own is up = parts v (own_row t q own v) (λ r h. old-refs v r (take-in r q v.refs h))
+pub within-own_row : (v : SeatView) (t : Tree) (q own : ℕ) → tree_word t ≡ suc q → Reaches v t → Within (own_row t q own v) v
+within-own_row v t q own is up = parts v (own_row t q own v) (λ r h. old-refs v r (without_tree-in r q v.refs h))
     (λ r h. ⊎_elim (λ a. in-reached v t r up (entry-in t q own r is a)) (λ b. old-owned v r (without-in r q v.owned b))
     (in-append r (entry_rows (q, entry_of t own 0)) (concat_map entry_rows (without q v.owned)) h))
 
@@ -174,9 +176,9 @@ has-mono r l m h = joined (mem r l) (mem r m) h
     joined true true h = omega arith
     joined true false h = absurd (true≢false (sym (h refl)))
 
-pub card-mono : (n : ℕ) (w v : SeatView) → Within w v → row_count n w ≤ row_count n v
-card-mono zero w v h = omega arith
-card-mono (suc n) w v h = let a = card-mono n w v h in let b = has-mono n (rows_of_view w) (rows_of_view v) (h n) in omega arith
+pub row_count-mono : (n : ℕ) (w v : SeatView) → Within w v → row_count n w ≤ row_count n v
+row_count-mono zero w v h = omega arith
+row_count-mono (suc n) w v h = let a = row_count-mono n w v h in let b = has-mono n (rows_of_view w) (rows_of_view v) (h n) in omega arith
 
 pub within-links : (v : SeatView) (q : ℕ) (e : Entry) → find q v.owned ≡ some e → (r : ℕ) → In r (concat_map link_rows e.links) → In r (rows_of_view v)
 within-links v q e has r h = old-owned v r (in-owned v.owned q e r has (⊎_elim (λ t. rw t.0 refl) (λ t. rw t.0 h) (eqb_tells q r)))
@@ -190,13 +192,13 @@ set-links (m ∷ ms) (suc k) l r h = ⊎_elim (λ a. inr (in-left r (link_rows m
     (λ b. ⊎_elim (λ c. inl c) (λ c. inr (in-right r (link_rows m) (concat_map link_rows ms) c)) (set-links ms k l r b))
     (in-append r (link_rows m) (concat_map link_rows (set ms k l)) h)
 
-back-in : (t : Tree) (ts : List Tree) (r : ℕ) → In r (concat_map rows_in (with_old_target t ts)) → In r (rows_in t) ⊎ In r (concat_map rows_in ts)
-back-in nil ts r h = inr h
-back-in (row q ws ks) ts r h = in-append r (rows_in (row q ws ks)) (concat_map rows_in ts) h
+with_old_target-in : (t : Tree) (ts : List Tree) (r : ℕ) → In r (concat_map rows_in (with_old_target t ts)) → In r (rows_in t) ⊎ In r (concat_map rows_in ts)
+with_old_target-in nil ts r h = inr h
+with_old_target-in (row q ws ks) ts r h = in-append r (rows_in (row q ws ks)) (concat_map rows_in ts) h
 
-hand-in : (t : Tree) (ts : List Tree) (r : ℕ) → In r (concat_map rows_in (without_target t ts)) → In r (concat_map rows_in ts)
-hand-in nil ts r h = h
-hand-in (row q ws ks) ts r h = take-in r q ts h
+without_target-in : (t : Tree) (ts : List Tree) (r : ℕ) → In r (concat_map rows_in (without_target t ts)) → In r (concat_map rows_in ts)
+without_target-in nil ts r h = h
+without_target-in (row q ws ks) ts r h = without_tree-in r q ts h
 
 target-in : (v : SeatView) (goal : Tree) (b r : ℕ) → (0 < tree_word goal → get_elem? v.refs b ≡ some goal) → In r (rows_in goal) → In r (rows_of_view v)
 target-in v nil b r ref h = absurd (true≢false (sym h))
@@ -206,25 +208,26 @@ pub within-linked : (v : SeatView) (q : ℕ) (e : Entry) (k b : ℕ) (from goal 
     → (0 < tree_word goal → get_elem? v.refs b ≡ some goal)
     → Within (relinked q e k from goal v) v
 within-linked v q e k b from goal has is ref = parts v (relinked q e k from goal v)
-    (λ r h. ⊎_elim (λ a. in-reached v from r (by_link q e k has is) a) (λ c. old-refs v r (hand-in goal v.refs r c)) (back-in from
+    (λ r h. ⊎_elim (λ a. in-reached v from r (by_link q e k has is) a) (λ c. old-refs v r (without_target-in goal v.refs r c)) (with_old_target-in from
     (without_target goal v.refs) r h))
     (λ r h. ⊎_elim
     (λ a. ⊎_elim (λ (z : q ≡ r). old-owned v r (in-owned v.owned q e r has (rw (eq-eqb q r z) refl)))
     (λ c. ⊎_elim (target-in v goal b r ref) (within-links v q e has r) (set-links e.links k (Link.to goal) r c))
     (in-head r q (concat_map link_rows (set e.links k (Link.to goal))) a))
-    (λ c. old-owned v r (without-in r q v.owned c)) (in-append r (entry_rows (q, with_link k (Link.to goal) e)) (concat_map entry_rows (without q v.owned)) h))
+    (λ c. old-owned v r (without-in r q v.owned c)) (in-append r (entry_rows (q, with_link k (Link.to goal) e)) (concat_map entry_rows
+    (without q v.owned)) h))
 
 -- an owned row that goes live has its own row, and what its links name
 tree-in : (t : Tree) (q r : ℕ) (us : List Tree) → tree_word t ≡ suc q → children t ≡ us → In r (rows_in t)
     → (q ≡ r) ⊎ In r (concat_map link_rows (map Link.to us))
 tree-in nil q r us is beneath h = absurd (omega arith)
 tree-in (row p ws ts) q r us is beneath h = ⊎_elim (λ (z : p ≡ r). inl (omega arith))
-    (λ b. inr (subst (λ us. In r (concat_map link_rows (map Link.to us))) beneath (kids-out ts r b))) (in-head r p (rows_of ts) h)
+    (λ b. inr (subst (λ us. In r (concat_map link_rows (map Link.to us))) beneath (rows-children ts r b))) (in-head r p (rows_of ts) h)
   where
-    kids-out : (ts : Trees) (r : ℕ) → In r (rows_of ts) → In r (concat_map link_rows (map Link.to (children_of ts)))
-    kids-out no_trees r h = h
-    kids-out (next t ts) r h = ⊎_elim (λ a. in-left r (rows_in t) (concat_map link_rows (map Link.to (children_of ts))) a)
-        (λ b. in-right r (rows_in t) (concat_map link_rows (map Link.to (children_of ts))) (kids-out ts r b)) (in-append r (rows_in t) (rows_of ts) h)
+    rows-children : (ts : Trees) (r : ℕ) → In r (rows_of ts) → In r (concat_map link_rows (map Link.to (children_of ts)))
+    rows-children no_trees r h = h
+    rows-children (next t ts) r h = ⊎_elim (λ a. in-left r (rows_in t) (concat_map link_rows (map Link.to (children_of ts))) a)
+        (λ b. in-right r (rows_in t) (concat_map link_rows (map Link.to (children_of ts))) (rows-children ts r b)) (in-append r (rows_in t) (rows_of ts) h)
 
 pub within-published : (v : SeatView) (q : ℕ) (e : Entry) (us : List Tree) (t : Tree) → find q v.owned ≡ some e → e.links ≡ map Link.to us → Becomes q e us t
     → Within (published q t v) v
@@ -235,10 +238,10 @@ within-published v q e us t has links b = parts v (published q t v)
     (λ r h. old-owned v r (without-in r q v.owned h))
 
 -- the entry of a live row that a seat reaches, once it is owned
-pub within-seize-link : (v : SeatView) (t : Tree) (r q k : ℕ) (d : Entry) → tree_word t ≡ suc r → find q v.owned ≡ some d
+pub within-own_linked_row : (v : SeatView) (t : Tree) (r q k : ℕ) (d : Entry) → tree_word t ≡ suc r → find q v.owned ≡ some d
     → get_elem? d.links k ≡ some (Link.to t)
     → Within (own_linked_row t r q k d v) v
-within-seize-link v t r q k d is_r has is = parts v (own_linked_row t r q k d v) (old-refs v)
+within-own_linked_row v t r q k d is_r has is = parts v (own_linked_row t r q k d v) (old-refs v)
     (λ p h. ⊎_elim
     (λ a. ⊎_elim (λ (z : q ≡ p). old-owned v p (in-owned v.owned q d p has (rw (eq-eqb q p z) refl)))
     (λ b. ⊎_elim (λ o. absurd (true≢false (sym o))) (within-links v q d has p) (set-links d.links k (Link.own r) p b))
@@ -247,9 +250,9 @@ within-seize-link v t r q k d is_r has is = parts v (own_linked_row t r q k d v)
     (in-append p (entry_rows (r, entry_of t 0 1)) (concat_map entry_rows (without r v.owned)) (without-in p q (put r (entry_of t 0 1) v.owned) b)))
     (in-append p (entry_rows (q, with_link k (Link.own r) d)) (concat_map entry_rows (without q (put r (entry_of t 0 1) v.owned))) h))
 
-pub within-publish-link : (v : SeatView) (r : ℕ) (e : Entry) (us : List Tree) (t : Tree) (q k : ℕ) (d : Entry) → find r v.owned ≡ some e
+pub within-published_by_link : (v : SeatView) (r : ℕ) (e : Entry) (us : List Tree) (t : Tree) (q k : ℕ) (d : Entry) → find r v.owned ≡ some e
     → e.links ≡ map Link.to us → Becomes r e us t → find q v.owned ≡ some d → Within (published_by_link r t q k d v) v
-within-publish-link v r e us t q k d has links b has_q = parts v (published_by_link r t q k d v) (old-refs v)
+within-published_by_link v r e us t q k d has links b has_q = parts v (published_by_link r t q k d v) (old-refs v)
     (λ p h. ⊎_elim
     (λ a. ⊎_elim (λ (z : q ≡ p). old-owned v p (in-owned v.owned q d p has_q (rw (eq-eqb q p z) refl)))
     (λ c. ⊎_elim

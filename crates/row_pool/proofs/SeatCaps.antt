@@ -12,8 +12,8 @@ use Rattle.row_pool.specs.Rule.{CapsHold, RuleHolds}
 use Rattle.row_pool.specs.Changes.{remaining, split_off, joined, spent}
 use Rattle.row_pool.proofs.Seats.{same_or, each_set}
 use Rattle.row_pool.proofs.Words.{at-length}
-use Rattle.row_pool.proofs.Numbers.{first-is, found-less, struck-else, struck-sum, numbers-splits, numbers-joins}
-use Rattle.row_pool.proofs.RowCounts.{Within, card-mono, rows-bound}
+use Rattle.row_pool.proofs.Numbers.{first-is, found-less, without_first-else, without_first-sum, numbers-splits, numbers-joins}
+use Rattle.row_pool.proofs.RowCounts.{Within, row_count-mono, rows-bound}
 
 -- a seat that is split off stands in the first one's list
 pub listed-in : (views : List SeatView) → NumbersHold (map numbering views) → (i j : ℕ) (v w : SeatView) → get_elem? views i ≡ some v → v.number ≡ 1
@@ -40,7 +40,7 @@ caps-kept n views i v w at number out within h =
     × Within x u) views i w (v, at, sym number, sym out, within) (λ j u _ e. (u, e, refl, refl, λ r h. h)) in
     λ a b x y cap e one f two found.
     let p = old a x e in let q = old b y f in
-    let m = card-mono n y q.0 q.4 in let z = q.2 in
+    let m = row_count-mono n y q.0 q.4 in let z = q.2 in
     let same : find q.0.number p.0.out ≡ find y.number x.out = λ k. find (q.2 k) (p.3 k) in
     let c = h a b p.0 q.0 cap p.1 (p.2 ∙ one) q.1 (omega arith) (same ∙ found) in omega arith
 
@@ -80,13 +80,14 @@ caps-joins n views i k v w at first at_k other h caps a b x y cap e one f two fo
     (λ b u ne o. each_set (λ b u. b ≢ k → 2 ≤ u.number → find u.number (without_first w.number v.out) ≡ some cap
     → row_count n u ≤ cap) views i (joined v w) (λ _ two. let z : (joined v w).number ≡ 1 = first in absurd (omega arith))
     (λ b u _ o ne two found. caps i b v u cap at first o two (sym
-    (struck-else w.number u.number v.out (λ z. ne (h.apart b k (numbering u) (numbering w) (at_map numbering views b u o) (at_map numbering views k w at_k)
+    (without_first-else w.number u.number v.out (λ z. ne (h.apart b k (numbering u) (numbering w) (at_map numbering views b u o)
+    (at_map numbering views k w at_k)
     (omega arith) z))) ∙ found)) b u o ne)
     b y f two (ap (find y.number) (sym out) ∙ found)
 
-card-none : (n : ℕ) (v : SeatView) → v.refs ≡ [] → v.owned ≡ [] → row_count n v ≡ 0
-card-none zero v a b = refl
-card-none (suc n) v a b = let o = card-none n v a b in let z : has n (rows_of_view v) ≡ 0 = rw (a, b) refl in omega arith
+row_count-none : (n : ℕ) (v : SeatView) → v.refs ≡ [] → v.owned ≡ [] → row_count n v ≡ 0
+row_count-none zero v a b = refl
+row_count-none (suc n) v a b = let o = row_count-none n v a b in let z : has n (rows_of_view v) ≡ 0 = rw (a, b) refl in omega arith
 
 -- What each of the seats may have, by its number in a list
 abbrev Within_caps : ℕ → List (ℕ × ℕ) → SeatView → Type 0
@@ -104,9 +105,16 @@ sum-caps n (w ∷ ws) out h apart =
     ⊎_elim
     (λ (z : w.number ≡ 0). let a = one.0 z in let b = sum-caps n ws out (λ j u e. h (suc j) u e) later in omega arith)
     (λ some_number. let c = one.1 (omega arith) in
-    let s = struck-sum w.number c.0 out c.1 in
-    let b = sum-caps n ws (without_first w.number out) (λ j u e. let o = h (suc j) u e in
-    (o.0, λ low. let d = o.1 low in (d.0, struck-else w.number u.number out (λ z. let bad = apart (suc j) 0 u w e refl low z in omega arith) ∙ d.1, d.2)))
+    let s = without_first-sum w.number c.0 out c.1 in
+    let b = sum-caps n ws (without_first w.number out) (λ j u e. let o = h (suc j) u e in (
+      o.0,
+      λ low. let d = o.1 low in (
+        d.0,
+        without_first-else w.number u.number out (λ z. let bad = apart (suc j) 0 u w e refl low z in omega arith)
+            ∙ d.1,
+        d.2,
+      ),
+    ))
     later in
     let m = c.2 in omega arith)
     (same_or w.number 0)
@@ -117,9 +125,9 @@ pub covered : {S : Type 0} {n : ℕ} {s : State S SeatView} (c : RuleHolds S n s
 covered {n = n} {s = s} c i v at first =
     let others : List SeatView = set s.views i spent in
     let each : (j : ℕ) (w : SeatView) → get_elem? others j ≡ some w → Within_caps n v.out w =
-    each_set (λ _ w. Within_caps n v.out w) s.views i spent (λ _. card-none n spent refl refl, λ low. absurd (omega arith))
+    each_set (λ _ w. Within_caps n v.out w) s.views i spent (λ _. row_count-none n spent refl refl, λ low. absurd (omega arith))
     (λ j w ne e. (
-      λ z. let o = (c.counted.fits j w e).spent z in card-none n w o.0 o.1,
+      λ z. let o = (c.counted.fits j w e).spent z in row_count-none n w o.0 o.1,
       λ low.
           let not_first : w.number ≢ 1 = λ z. ne (c.numbers.apart j i (numbering w) (numbering v) (at_map numbering s.views j w e)
           (at_map numbering s.views i v at) low (z

@@ -1,34 +1,34 @@
 -- What the calls do to a seat that has references and one chain alone.
-use Rattle.std.proofs.Common.{◌≡◌, ◌≢◌, ◌⊎◌, ℕ, zero, suc, true, true≢false, ◌<◌, ◌≤◌, List, [], ◌∷◌, ◌++◌, length, slice_index, slice_index_or, sym}
-use Rattle.std.proofs.Common.{refl, ap, ◌∙◌, inl, inr, ⊎_elim, eq-eqb, arith}
+use Rattle.std.proofs.Common.{◌≡◌, ◌≢◌, ◌⊎◌, ℕ, zero, suc, true, true≢false, ◌<◌, ◌≤◌, List, [], ◌∷◌, ◌++◌, length, slice_index_or, sym}
+use Rattle.std.proofs.Common.{append-nil, refl, ap, subst, ◌∙◌, inl, inr, ⊎_elim, eq-eqb, arith}
 use mathlib.Core.Option.{none, some, some-ne-none}
 use lib.ListN.{get_elem?}
 use Rattle.std.proofs.lemmas.Bool.Decides.{eqb_tells}
 use Rattle.atomic_table.specs.Seated.{TableId}
 use Rattle.row_pool.specs.Lists.{find, mem}
-use Rattle.row_pool.specs.Trees.{Tree, Entry, tree_word, words_of, children, depth}
+use Rattle.row_pool.specs.Trees.{Tree, Entry, tree_word, children, depth}
 use Rattle.row_pool.specs.SeatView.{SeatView}
-use Rattle.row_pool.specs.Changes.{tree_of, without_tree, with_ref, entry_of, own_row, published, fresh, with_entry, put, joined}
+use Rattle.row_pool.specs.Changes.{tree_of, without_tree, with_ref, entry_of, own_row, published, fresh, joined}
 use Rattle.row_pool.specs.Changes.{remaining, split_off}
 use Rattle.row_pool.specs.Numbers.{without_first}
 use Rattle.row_pool.specs.Views.{ViewInvariant, Reaches, by_ref}
-use Rattle.row_pool.specs.SeatState.{SeatState, SameSeat, OnlyEntriesChange, OnlyEntryChanges}
+use Rattle.row_pool.specs.SeatState.{SeatState, SameSeat, OnlyEntriesChange, OnlyEntryChanges, kind_of}
 use Rattle.row_pool.specs.Chains.{IsChain, ChainGrows, SplitAt, Disjoint}
-use Rattle.row_pool.specs.TestSeats.{Holding, HoldsRow}
+use Rattle.row_pool.specs.TestSeats.{Holding, HoldsRow, WentLive}
 use Rattle.row_pool.specs.declared.chain.Chain.{Chain}
 use Rattle.row_pool.proofs.Sums.{find-else, find-without}
-use Rattle.row_pool.proofs.Seats.{same_or, find-put}
+use Rattle.row_pool.proofs.Seats.{same_or, find-here, find-put}
 use Rattle.row_pool.proofs.Laws.{depth-below}
 use Rattle.row_pool.proofs.FirstState.{free-at}
-use Rattle.row_pool.proofs.NewestRef.{tree-first, take-first}
-use Rattle.row_pool.proofs.DistinctKeys.{once-first}
+use Rattle.row_pool.proofs.NewestRef.{tree_of-first, without_tree-first}
+use Rattle.row_pool.proofs.DistinctKeys.{distinct-first}
 use Rattle.row_pool.proofs.Chains.{mem-or, mem-head, mem-left, mem-right, chain-on, strung-free, strung-apart}
 
 pub first-up : (v : SeatView) (t : Tree) (ts : List Tree) → v.refs ≡ t ∷ ts → Reaches v t
 first-up v t ts h = by_ref 0 (ap (λ ts. get_elem? ts 0) h)
 
 pub first-named : (v : SeatView) (t : Tree) (ts : List Tree) (r : ℕ) → v.refs ≡ t ∷ ts → tree_word t ≡ suc r → tree_word (tree_of r v.refs) ≡ suc r
-first-named v t ts r h is = ap (λ ts. tree_word (tree_of r ts)) h ∙ ap tree_word (tree-first r t ts is) ∙ is
+first-named v t ts r h is = ap (λ ts. tree_word (tree_of r ts)) h ∙ ap tree_word (tree_of-first r t ts is) ∙ is
 
 pub stand-held : (p : TableId) (s n : SeatState) (c : Chain) (t : Tree) (ts : List Tree) (rs : List ℕ) → Holding p s c (t ∷ ts) rs → n.table ≡ s.table
     → n.view ≡ with_ref t s.view → Holding p n c (t ∷ t ∷ ts) rs
@@ -39,86 +39,124 @@ stand-held p s n c t ts rs h table move = record {
   all = λ q e f. h.all q e (sym (ap (λ (v : SeatView). find q v.owned) move) ∙ f);
 }
 
-pub stand-dropped : (p : TableId) (s n : SeatState) (c d : Chain) (r : ℕ) (t : Tree) (ts : List Tree) (rs : List ℕ) → tree_word t ≡ suc r
-    → Holding p s c (t ∷ ts) rs
-    → n.table ≡ s.table → n.view.refs ≡ without_tree r s.view.refs → ChainGrows s.view n.view c d
-    → (us : List ℕ) × Holding p n d ts us
-stand-dropped p s n c d r t ts rs is h table refs g = (
+pub stand-dropped : (p : TableId) (s n : SeatState) (c d : Chain) (r : ℕ) (us ts : List Tree) (rs : List ℕ) → without_tree r us ≡ ts
+    → Holding p s c us rs → n.table ≡ s.table → n.view.refs ≡ without_tree r s.view.refs → ChainGrows s.view n.view c d
+    → (qs : List ℕ) × Holding p n d ts qs
+stand-dropped p s n c d r us ts rs left h table refs g = (
   g.more ++ rs,
   record {
     table = table ∙ h.table;
-    refs = refs ∙ ap (without_tree r) h.refs ∙ take-first r t ts is;
+    refs = refs ∙ ap (without_tree r) h.refs ∙ left;
     chain = g.chain rs h.chain;
     all = λ q e f. ⊎_elim (λ m. mem-left q g.more rs m) (λ m. mem-right q g.more rs (h.all q e (sym (g.owns_more.same q m) ∙ f))) (mem-or q g.more);
   },
 )
 
--- a row came out of the chain, and went live
-pub stand-turned : (p : TableId) (s n : SeatState) (c d : Chain) (r : ℕ) (ts us : List Tree) (rs : List ℕ) → Holding p s c ts (r ∷ rs) → IsChain s.view d rs
-    → n.table ≡ s.table → n.view.refs ≡ us
-    → ((q : ℕ) → q ≢ r → find q n.view.owned ≡ find q s.view.owned) → find r n.view.owned ≡ none → Holding p n d us rs
-stand-turned p s n c d r ts us rs h on table refs others gone = record {
-  table = table ∙ h.table;
-  refs = refs;
-  chain = chain-on s.view n.view d rs (λ q m. others q (λ z. true≢false (sym m ∙ ap (λ q. mem q rs) z
-      ∙ strung-apart s.view r rs c.head h.chain.linked_from))) on;
-  all = λ q e f. ⊎_elim (λ (z : q ≡ r). absurd (some-ne-none e (sym f ∙ ap (λ q. find q n.view.owned) z ∙ gone)))
-      (λ ne. ⊎_elim (λ z. absurd (ne (sym z))) (λ o. o.1) (mem-head q r rs (h.all q e (sym (others q ne) ∙ f)))) (same_or q r);
+-- an owned row went live, and its reference is the newest
+pub went-live : (v x w : SeatView) (r : ℕ) (t : Tree) (ts : List Tree) → x.refs ≡ ts → ((q : ℕ) → q ≢ r → find q x.owned ≡ find q v.owned) → SameSeat v x
+    → w ≡ published r t x → WentLive r t ts v w
+went-live v x w r t ts refs others same_seat move = record {
+  refs = ap (λ (v : SeatView). v.refs) move ∙ ap (λ ts. t ∷ ts) refs;
+  others = λ q n. ap (λ (v : SeatView). find q v.owned) move ∙ find-else q r x.owned n ∙ others q n;
+  gone = ap (λ (v : SeatView). find r v.owned) move ∙ find-without r x.owned;
+  same_seat = record {
+    number = ap (λ (v : SeatView). v.number) move ∙ same_seat.number;
+    out = ap (λ (v : SeatView). v.out) move ∙ same_seat.out;
+    size = ap (λ (v : SeatView). v.size) move ∙ same_seat.size;
+  };
 }
 
-pub stand-made : (p : TableId) (s n : SeatState) (c d : Chain) (r : ℕ) (t : Tree) (ts : List Tree) (rs : List ℕ) → Holding p s c ts (r ∷ rs)
-    → IsChain s.view d rs
-    → n.table ≡ s.table → n.view.refs ≡ t ∷ s.view.refs
-    → ((q : ℕ) → q ≢ r → find q n.view.owned ≡ find q s.view.owned) → find r n.view.owned ≡ none → Holding p n d (t ∷ ts) rs
-stand-made p s n c d r t ts rs h on table refs others gone = stand-turned p s n c d r ts (t ∷ ts) rs h on table (refs ∙ ap (λ ts. t ∷ ts) h.refs) others gone
-
--- a row was popped, turned and published
-pub made : (v w x y : SeatView) (r : ℕ) (e : Entry) (t : Tree) → w ≡ v → x ≡ with_entry r e w → y ≡ published r t x
-    → (y.refs ≡ t ∷ v.refs) × ((q : ℕ) → q ≢ r → find q y.owned ≡ find q v.owned) × (find r y.owned ≡ none) × SameSeat v y
-made v w x y r e t a b d =
-    let all : y ≡ published r t (with_entry r e v) = d ∙ ap (published r t) (b ∙ ap (with_entry r e) a) in (
-      ap (λ (v : SeatView). v.refs) all,
-      λ q n. ap (λ (v : SeatView). find q v.owned) all ∙ find-else q r (put r e v.owned) n ∙ sym (find-put q r e v.owned n),
-      ap (λ (v : SeatView). find r v.owned) all ∙ find-without r (put r e v.owned),
-      record { number = ap (λ (v : SeatView). v.number) all; out = ap (λ (v : SeatView). v.out) all; size = ap (λ (v : SeatView). v.size) all },
-    )
-
--- an owned row changed, was turned and published
-pub made-of : (v x y z : SeatView) (r : ℕ) (e : Entry) (t : Tree) → OnlyEntryChanges r v x → y ≡ with_entry r e x → z ≡ published r t y
-    → (z.refs ≡ t ∷ v.refs) × ((q : ℕ) → q ≢ r → find q z.owned ≡ find q v.owned) × (find r z.owned ≡ none) × SameSeat v z
-made-of v x y z r e t o b d =
-    let m = made x x y z r e t refl b d in (
-      m.0 ∙ ap (λ ts. t ∷ ts) o.refs,
-      λ q n. m.1 q n ∙ o.others q n,
-      m.2,
-      record { number = m.3.number ∙ o.same_seat.number; out = m.3.out ∙ o.same_seat.out; size = m.3.size ∙ o.same_seat.size },
-    )
-
+-- a chain with a row has a first one
 pub split-first : (rs : List ℕ) → 1 ≤ length rs → (r : ℕ) × (us : List ℕ) × (rs ≡ r ∷ us)
 split-first [] h = absurd (omega arith)
 split-first (r ∷ us) h = (r, us, refl)
 
--- a live row that is owned can go live again
-pub own-whole : (v : SeatView) (t : Tree) → ViewInvariant v → Reaches v t → 0 < tree_word t
-    → (0 < slice_index (words_of t) 1) × ((k : ℕ) (u : Tree) → get_elem? (children t) k ≡ some u → depth u ≤ 3)
-own-whole v t h up some_row = let s = h.trees t up some_row in let low = s.shallow in (s.some_kind, λ k u e. let a = depth-below t u k e in omega arith)
+-- the first row left the chain
+pub popped : (p : TableId) (s : SeatState) (c d : Chain) (r : ℕ) (ts : List Tree) (rs : List ℕ) → 1 ≤ length rs → Holding p s c ts rs
+    → ((q : ℕ) (us : List ℕ) → IsChain s.view c (q ∷ us) → (r ≡ q) × IsChain s.view d us)
+    → (us : List ℕ) × (length rs ≡ suc (length us)) × Holding p s c ts (r ∷ us) × IsChain s.view d us
+popped p s c d r ts rs some_row h row =
+    let o = split-first rs some_row in
+    let k : Holding p s c ts (o.0 ∷ o.1) = subst (Holding p s c ts) o.2 h in
+    let z = row o.0 o.1 k.chain in
+    (o.1, ap length o.2, subst (λ q. Holding p s c ts (q ∷ o.1)) (sym z.0) k, z.1)
 
--- a row that was referred to goes live again
-pub stand-again : (p : TableId) (s n : SeatState) (c : Chain) (r : ℕ) (t u : Tree) (ts : List Tree) (rs : List ℕ) → tree_word t ≡ suc r
-    → find r s.view.owned ≡ none
-    → Holding p s c (t ∷ ts) rs → n.table ≡ s.table
-    → n.view ≡ published r u (own_row t r 1 s.view) → Holding p n c (u ∷ ts) rs
-stand-again p s n c r t u ts rs is away h table move =
-    let same : (q : ℕ) → find q n.view.owned ≡ find q s.view.owned = λ q. ap (λ (v : SeatView). find q v.owned) move ∙
-    ⊎_elim (λ (z : q ≡ r). ap (λ q. find q (published r u (own_row t r 1 s.view)).owned) z ∙ find-without r (own_row t r 1 s.view).owned ∙ sym away
-    ∙ ap (λ q. find q s.view.owned) (sym z))
-    (λ ne. find-else q r (own_row t r 1 s.view).owned ne ∙ sym (find-put q r (entry_of t 1 0) s.view.owned ne)) (same_or q r) in
+-- the row that left the chain went live
+pub stand-turned : (p : TableId) (s n : SeatState) (c d : Chain) (r : ℕ) (t : Tree) (us ts : List Tree) (rs : List ℕ) → Holding p s c us (r ∷ rs)
+    → IsChain s.view d rs → n.table ≡ s.table → WentLive r t ts s.view n.view → Holding p n d (t ∷ ts) rs
+stand-turned p s n c d r t us ts rs h on table live = record {
+  table = table ∙ h.table;
+  refs = live.refs;
+  chain = chain-on s.view n.view d rs (λ q m. live.others q (λ z. true≢false (sym m ∙ ap (λ q. mem q rs) z
+      ∙ strung-apart s.view r rs c.head h.chain.linked_from))) on;
+  all = λ q e f. ⊎_elim (λ (z : q ≡ r). absurd (some-ne-none e (sym f ∙ ap (λ q. find q n.view.owned) z ∙ live.gone)))
+      (λ ne. ⊎_elim (λ z. absurd (ne (sym z))) (λ o. o.1) (mem-head q r rs (h.all q e (sym (live.others q ne) ∙ f)))) (same_or q r);
+}
+
+-- the same where the reference came before all others
+pub stand-live : (p : TableId) (s n : SeatState) (c d : Chain) (r : ℕ) (t : Tree) (ts : List Tree) (rs : List ℕ) → Holding p s c ts (r ∷ rs)
+    → IsChain s.view d rs → n.table ≡ s.table → WentLive r t s.view.refs s.view n.view → Holding p n d (t ∷ ts) rs
+stand-live p s n c d r t ts rs h on table live = stand-turned p s n c d r t ts ts rs h on table
+    (subst (λ ts. WentLive r t ts s.view n.view) h.refs live)
+
+-- what was changed of the row before it went live
+pub live-after : (v x w : SeatView) (r : ℕ) (t : Tree) → OnlyEntryChanges r v x → WentLive r t x.refs x w → WentLive r t v.refs v w
+live-after v x w r t only live = record {
+  refs = live.refs ∙ ap (λ ts. t ∷ ts) only.refs;
+  others = λ q n. live.others q n ∙ only.others q n;
+  gone = live.gone;
+  same_seat = record {
+    number = live.same_seat.number ∙ only.same_seat.number;
+    out = live.same_seat.out ∙ only.same_seat.out;
+    size = live.same_seat.size ∙ only.same_seat.size;
+  };
+}
+
+-- a row that the seat had a reference to went live again
+pub stand-again : (p : TableId) (s n : SeatState) (c : Chain) (r : ℕ) (t : Tree) (us ts : List Tree) (rs : List ℕ) → Holding p s c us rs
+    → find r s.view.owned ≡ none → n.table ≡ s.table → WentLive r t ts s.view n.view → Holding p n c (t ∷ ts) rs
+stand-again p s n c r t us ts rs h away table live = record {
+  table = table ∙ h.table;
+  refs = live.refs;
+  chain = chain-on s.view n.view c rs (λ q m. live.others q (λ z. let o = strung-free s.view rs c.head q h.chain.linked_from m in
+      some-ne-none o.0 (sym o.1 ∙ ap (λ q. find q s.view.owned) z ∙ away))) h.chain;
+  all = λ q e f. ⊎_elim (λ (z : q ≡ r). absurd (some-ne-none e (sym f ∙ ap (λ q. find q n.view.owned) z ∙ live.gone)))
+      (λ ne. h.all q e (sym (live.others q ne) ∙ f)) (same_or q r);
+}
+
+-- the row t of the newest reference is owned
+pub record OwnsNewest (v w : SeatView) (r : ℕ) (t : Tree) : Type 0 where
+  pub move : w ≡ own_row t r 1 v
+  pub has : find r w.owned ≡ some (entry_of t 1 0)
+  pub some_kind : 0 < kind_of t
+  pub shallow : (k : ℕ) (u : Tree) → get_elem? (children t) k ≡ some u → depth u ≤ 3
+  pub away : find r v.owned ≡ none
+
+pub owns-newest : (v w : SeatView) (r : ℕ) (t : Tree) (ts : List Tree) → ViewInvariant v → v.refs ≡ t ∷ ts → tree_word t ≡ suc r
+    → (tree_word (tree_of r v.refs) ≡ suc r → w ≡ own_row (tree_of r v.refs) r 1 v) → OwnsNewest v w r t
+owns-newest v w r t ts h refs is owned =
+    let first : tree_of r v.refs ≡ t = ap (tree_of r) refs ∙ tree_of-first r t ts is in
+    let move : w ≡ own_row t r 1 v = owned (ap tree_word first ∙ is) ∙ ap (λ t. own_row t r 1 v) first in
+    let shape = h.trees t (first-up v t ts refs) (omega arith) in
     record {
-      table = table ∙ h.table;
-      refs = ap (λ (v : SeatView). v.refs) move ∙ ap (λ ts. u ∷ without_tree r ts) h.refs ∙ ap (λ ts. u ∷ ts) (take-first r t ts is);
-      chain = chain-on s.view n.view c rs (λ q _. same q) h.chain;
-      all = λ q e f. h.all q e (sym (same q) ∙ f);
+      move = move;
+      has = ap (λ (v : SeatView). find r v.owned) move ∙ find-here r (entry_of t 1 0) v.owned;
+      some_kind = shape.some_kind;
+      shallow = λ k u e. let a = depth-below t u k e in let b = shape.shallow in omega arith;
+      away = h.apart r t (first-up v t ts refs) is;
     }
+
+-- it goes live again, as the tree u
+pub live-again : (v w x y : SeatView) (r : ℕ) (t u : Tree) (ts : List Tree) → v.refs ≡ t ∷ ts → tree_word t ≡ suc r → OwnsNewest v w r t
+    → OnlyEntryChanges r w x → y ≡ published r u x → WentLive r u ts v y
+live-again v w x y r t u ts refs is own only move = went-live v x y r u ts
+    (only.refs ∙ ap (λ (v : SeatView). v.refs) own.move ∙ ap (without_tree r) refs ∙ without_tree-first r t ts is)
+    (λ q n. only.others q n ∙ ap (λ (v : SeatView). find q v.owned) own.move ∙ sym (find-put q r (entry_of t 1 0) v.owned n))
+    (record {
+      number = only.same_seat.number ∙ ap (λ (v : SeatView). v.number) own.move;
+      out = only.same_seat.out ∙ ap (λ (v : SeatView). v.out) own.move;
+      size = only.same_seat.size ∙ ap (λ (v : SeatView). v.size) own.move;
+    }) move
 
 pub stand-same : (p : TableId) (s n : SeatState) (c : Chain) (ts : List Tree) (rs : List ℕ) → Holding p s c ts rs → n.table ≡ s.table → n.view ≡ s.view
     → Holding p n c ts rs
@@ -153,10 +191,6 @@ stand-joined p s o m n c e d ts rs us h g table table' move a on = record {
       (either q s.view.owned o.view.owned x (sym (ap (λ (v : SeatView). find q v.owned) move) ∙ sym (a.others q out) ∙ f)))) (mem-or q us);
 }
   where
-    append-nil : (ts : List Tree) → ts ++ [] ≡ ts
-    append-nil [] = refl
-    append-nil (t ∷ ts) = ap (λ l. t ∷ l) (append-nil ts)
-
     either : (q : ℕ) (ps qs : List (ℕ × Entry)) (x : Entry) → find q (ps ++ qs) ≡ some x
         → ((y : Entry) × (find q ps ≡ some y)) ⊎ ((y : Entry) × (find q qs ≡ some y))
     either q [] qs x f = inr (x, f)
@@ -172,7 +206,7 @@ rows-apart v w c e rs us h g apart = λ q i. ⊎_elim (λ m. let o = strung-free
 
 -- a chain of the first seat's after a join, and one of the other's
 pub chain-first : (v w : SeatView) (c : Chain) (rs : List ℕ) → IsChain v c rs → IsChain (joined v w) c rs
-chain-first v w c rs h = chain-on v (joined v w) c rs (λ q m. let o = strung-free v rs c.head q h.linked_from m in once-first q v.owned w.owned o.0 o.1
+chain-first v w c rs h = chain-on v (joined v w) c rs (λ q m. let o = strung-free v rs c.head q h.linked_from m in distinct-first q v.owned w.owned o.0 o.1
     ∙ sym o.1) h
 
 pub chain-second : (v w n : SeatView) (c : Chain) (us : List ℕ) → IsChain w c us → ((r : ℕ) (d : Entry) → find r w.owned ≡ some d → find r n.owned ≡ some d)
@@ -195,7 +229,7 @@ pub stand-split : (p : TableId) (s n : SeatState) (c : Chain) (r : ℕ) (t : Tre
     → n.table ≡ s.table → n.view ≡ remaining (r ∷ []) s.view → Holding p n c ts rs
 stand-split p s n c r t ts rs is h table move = record {
   table = table ∙ h.table;
-  refs = ap (λ (v : SeatView). v.refs) move ∙ ap (without_tree r) h.refs ∙ take-first r t ts is;
+  refs = ap (λ (v : SeatView). v.refs) move ∙ ap (without_tree r) h.refs ∙ without_tree-first r t ts is;
   chain = chain-on s.view n.view c rs (λ q _. ap (λ (v : SeatView). find q v.owned) move) h.chain;
   all = λ q e f. h.all q e (sym (ap (λ (v : SeatView). find q v.owned) move) ∙ f);
 }
@@ -208,7 +242,7 @@ held-split p s n c d r t ts rs is h table move on = record {
   rows = [];
   stand = record {
     table = table ∙ h.table;
-    refs = ap (λ (v : SeatView). v.refs) move ∙ ap (λ ts. tree_of r ts ∷ []) h.refs ∙ ap (λ t. t ∷ []) (tree-first r t ts is);
+    refs = ap (λ (v : SeatView). v.refs) move ∙ ap (λ ts. tree_of r ts ∷ []) h.refs ∙ ap (λ t. t ∷ []) (tree_of-first r t ts is);
     chain = on;
     all = λ q e f. absurd (some-ne-none e (sym f ∙ ap (λ (v : SeatView). find q v.owned) move));
   };

@@ -5,7 +5,9 @@ ghost use Rattle.row_pool.specs.SeatState.{SeatState, SameSeat};
 ghost use Rattle.row_pool.specs.TestSeats.{Holding, HoldsRow, HoldsNone};
 ghost use Rattle.row_pool.specs.declared.chain.Chain.{Chain};
 
-use crate::tests::{close_all, drop_one, make_item, make_leaf, snapshot, take_back, work};
+use crate::tests::{
+    close_all, drop_one, make_item, make_leaf, new_pool, snapshot, take_back, work,
+};
 use crate::{Chain, RowSeat, Rows};
 use std::test::Fail;
 use std::thread;
@@ -14,7 +16,8 @@ use std::thread::Threads;
 /// Each worker on a thread of its own.
 fn eight_readers<R: Threads + Sync>(rt: &R, rows: &Rows, workers: &mut [(RowSeat, Chain)], row: u32)
     requires { All (λ w. HoldsRow rows.now row w) workers.old }
-    ensures { (i : ℕ) (d : SeatState × Chain) → i < length workers.old → HoldsNone rows.now (slice_index_or workers.old i d) (slice_index_or workers.new i d) }
+    ensures { (i : ℕ) (d : SeatState × Chain) → i < length workers.old
+        → HoldsNone rows.now (slice_index_or workers.old i d) (slice_index_or workers.new i d) }
 {
     thread::for_each_mut(
         rt,
@@ -145,7 +148,7 @@ fn with_seven_snapshots(
 
 #[test]
 fn eight_threads_meet(rt: HostRuntime) -> Result<(), Fail> {
-    let (rows, mut first_seat, mut chain) = Rows::new(rt.alloc(), 5)?;
+    let (rows, mut first_seat, mut chain) = new_pool(rt.alloc(), 5)?;
     let item = make_item(&rows, &mut first_seat, &mut chain);
     let row = make_leaf(&rows, &mut first_seat, &mut chain, item);
     let workers = with_seven_snapshots(&rows, first_seat, chain, row);

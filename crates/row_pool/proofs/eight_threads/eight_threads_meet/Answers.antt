@@ -1,35 +1,21 @@
 use Rattle.std.proofs.Common.{[], ◌∷◌, sym, ◌∙◌, arith}
-use Rattle.row_pool.proofs.TestSeats.{stand-fresh}
 use Rattle.row_pool.proofs.eight_threads.eight_threads_meet.Goals as goal
 
 pub make_item-item-requires : goal.make_item-item-requires
-make_item-item-requires g c =
-    let pool = c.in_ok-rows.ensures.pool in
-    let ch = c.in_ok-rows.ensures.chain in
-    record {
-      stand = (
-        [],
-        ch.0,
-        stand-fresh c.in_ok-rows.rows c.in_ok-rows.first_seat c.in_ok-rows.chain 5 ch.0 pool.0 pool.1 ch.1 ch.3,
-        (let a = ch.2 in omega arith),
-        omega arith,
-      );
-    }
+make_item-item-requires g c = let h = c.in_ok-rows.ensures.stand in record { stand = ([], h.0, h.1, (let a = h.2 in omega arith), omega arith) }
 
 pub make_leaf-row-requires : goal.make_leaf-row-requires
 make_leaf-row-requires g c =
-    let pool = c.in_ok-rows.ensures.pool in
-    let ch = c.in_ok-rows.ensures.chain in
-    let h = c.make_item-item.ensures.stand [] ch.0 (stand-fresh c.in_ok-rows.rows c.in_ok-rows.first_seat c.in_ok-rows.chain 5 ch.0 pool.0 pool.1 ch.1 ch.3) in
-    record { stand = (h.0, [], h.1, h.4, h.2, h.5, (let a = ch.2 in let b = h.3 in omega arith), omega arith) }
+    let h = c.in_ok-rows.ensures.stand in
+    let k = c.make_item-item.ensures.stand [] h.0 h.1 in
+    record { stand = (k.0, [], k.1, k.4, k.2, k.5, (let a = h.2 in let b = k.3 in omega arith), omega arith) }
 
 pub with_seven_snapshots-workers-requires-clause-stand : goal.with_seven_snapshots-workers-requires-clause-stand
 with_seven_snapshots-workers-requires-clause-stand g c =
-    let pool = c.in_ok-rows.ensures.pool in
-    let ch = c.in_ok-rows.ensures.chain in
-    let h = c.make_item-item.ensures.stand [] ch.0 (stand-fresh c.in_ok-rows.rows c.in_ok-rows.first_seat c.in_ok-rows.chain 5 ch.0 pool.0 pool.1 ch.1 ch.3) in
-    let k = c.make_leaf-row.ensures.stand h.0 [] h.1 h.2 h.4 in
-    (k.0, k.1, k.3, k.2)
+    let h = c.in_ok-rows.ensures.stand in
+    let k = c.make_item-item.ensures.stand [] h.0 h.1 in
+    let l = c.make_leaf-row.ensures.stand k.0 [] k.1 k.2 k.4 in
+    (l.0, l.1, l.3, l.2)
 
 pub take_all_back-first_seat-requires-clause-none : goal.take_all_back-first_seat-requires-clause-none
 take_all_back-first_seat-requires-clause-none g c = λ i d low. let h = c.eight_meet-workers.ensures i d low in (h.rows, h.stand)

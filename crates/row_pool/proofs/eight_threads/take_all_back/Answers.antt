@@ -1,4 +1,4 @@
-use Rattle.std.proofs.Common.{◌≡◌, ℕ, ◌<◌, ◌≤◌, List, length, [], ◌∷◌, ap, sym, ◌∙◌, subst, arith}
+use Rattle.std.proofs.Common.{ℕ, ◌<◌, List, length, [], ◌∷◌, ap, sym, ◌∙◌, subst, arith}
 use Rattle.row_pool.specs.Numbers.{without_first}
 use Rattle.row_pool.specs.SeatState.{SeatState}
 use Rattle.row_pool.specs.TestSeats.{Holding}

@@ -1,4 +1,4 @@
-use Rattle.std.proofs.Common.{◌≡◌, ℕ, suc, zero, ◌<◌, List, [], ◌∷◌, length, slice_index_or, slice_index, ap, sym, ◌∙◌, arith}
+use Rattle.std.proofs.Common.{List, [], ◌∷◌, slice_index, ap, sym, ◌∙◌, arith}
 use Rattle.row_pool.specs.TestSeats.{HoldsRow}
 use Rattle.row_pool.specs.SeatState.{SeatState}
 use Rattle.row_pool.specs.declared.chain.Chain.{Chain}
@@ -9,7 +9,13 @@ pub returns-clause-hold : goal.returns-clause-hold
 returns-clause-hold c =
     let P : SeatState × Chain → Type 0 = λ w. HoldsRow c.args.rows.now c.args.row w in
     let g = c.two_snapshots-six.ensures.stand in
-    let f : HoldsRow c.args.rows.now c.args.row (c.two_snapshots-six.new.first_seat, c.args.chain) = record { tree = g.0; rows = g.1; stand = g.2; is = g.3 } in
+    let f : HoldsRow c.args.rows.now c.args.row (c.two_snapshots-six.new.first_seat, c.args.chain) = record {
+      tree = g.0;
+      rows = g.1;
+      stand =
+          g.2;
+      is = g.3;
+    } in
     let l7 : List (SeatState × Chain) = c.two_snapshots-six.result.1 ∷ [] in
     let l6 : List (SeatState × Chain) = c.two_snapshots-six.result.0 ∷ l7 in
     let l5 : List (SeatState × Chain) = c.two_snapshots-four.result.1 ∷ l6 in

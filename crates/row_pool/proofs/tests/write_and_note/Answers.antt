@@ -1,4 +1,4 @@
-use Rattle.std.proofs.Common.{◌≡◌, ◌≢◌, ℕ, ◌+◌, ◌≤◌, ap, ◌∙◌, sym, refl, subst, inr, arith}
+use Rattle.std.proofs.Common.{◌≡◌, ℕ, ◌+◌, ◌≤◌, ap, ◌∙◌, sym, refl, subst, inr, arith}
 use mathlib.Core.Option.{some, some-injective}
 use Rattle.row_pool.specs.Lists.{find}
 use Rattle.row_pool.specs.Trees.{Entry}

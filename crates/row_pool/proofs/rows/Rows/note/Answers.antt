@@ -4,7 +4,7 @@ use Rattle.row_pool.specs.Lists.{find}
 use Rattle.row_pool.specs.Trees.{Entry}
 use Rattle.row_pool.specs.SeatState.{SeatState, SeatInvariant}
 use Rattle.row_pool.proofs.Allowed.{notes-allowed}
-use Rattle.row_pool.proofs.Access.{at-word}
+use Rattle.row_pool.proofs.Access.{word-inside}
 use Rattle.row_pool.proofs.rows.Rows.note.Goals as goal
 
 pub load-requires : goal.load-requires
@@ -16,7 +16,7 @@ load-requires c =
     let same : c.seat.inside.seat.table_id ≡ c.self.inside.table.shared.table_id = ap (λ (k : SeatState). k.table) c.seat.view_is ∙ c.requires.table
     ∙ sym c.self.view_is in (
       same,
-      at-word good same c.args.row c.args.word (c.args.row * 80 + c.args.word) (inr (e, has)) c.requires.owned.2.1 refl,
+      word-inside good same c.args.row c.args.word (c.args.row * 80 + c.args.word) (inr (e, has)) c.requires.owned.2.1 refl,
       notes-allowed c.self.inside.table.shared.key c.self.inside.table.shared.table_id.slots c.seat.inside.seat.id c.seat.inside.seat.me good.unspent
           c.args.row (c.args.row * 80 + c.args.word) c.args.word e has refl c.requires.owned.2 c.requires.owned.3,
     )
