@@ -1,0 +1,99 @@
+use Rattle.std.proofs.Common.{◌≡◌, ◌<◌, ◌-◌, ℕ, List, [], ◌∷◌, ◌++◌, length, ap, sym, refl, subst, ◌∙◌, arith}
+use Rattle.row_pool.specs.Trees.{Tree, tree_word}
+use Rattle.row_pool.specs.SeatState.{SeatState}
+use Rattle.interval_tree.specs.Held.{OwnsNode}
+use Rattle.interval_tree.specs.Nodes.{Body, Many}
+use Rattle.interval_tree.specs.States.{Best}
+use Rattle.interval_tree.specs.Steps.{LeadsTo, HasItems, BestItem, HasChildren, BestBelow}
+use Rattle.interval_tree.proofs.Topping.{Meets, meets, body-most, meets-items, meets-best, meets-children, meets-found}
+use Rattle.interval_tree.proofs.bounds.greatest.Goals as goal
+use Rattle.interval_tree.proofs.bounds.greatest.Goals.{After-count_of-n, After-child_count-children, After-row_at-first, After-best_item-item}
+
+-- the loads change nothing that the seat knows
+after-count : (c : After-child_count-children) → c.child_count-children.new.seat.view ≡ c.args.seat.now.view
+after-count c = ap (λ (s : SeatState). s.view) (c.child_count-children.ensures.same ∙ c.count_of-n.ensures.same)
+
+after-first : (c : After-row_at-first) → c.row_at-first.new.seat.view ≡ c.args.seat.now.view
+after-first c = c.row_at-first.ensures.same.1 ∙ ap (λ (s : SeatState). s.view) (c.child_count-children.ensures.same ∙ c.count_of-n.ensures.same)
+
+after-item : (c : After-best_item-item) → c.best_item-item.new.seat.view ≡ c.args.seat.now.view
+after-item c = c.best_item-item.ensures.same.1 ∙ c.row_at-first.ensures.same.1
+    ∙ ap (λ (s : SeatState). s.view) (c.child_count-children.ensures.same ∙ c.count_of-n.ensures.same)
+
+pub overflow_cast-n : goal.overflow_cast-n
+overflow_cast-n c =
+    let (h, kind, n, us, xs, o, b, some_items) = c.requires.node in
+    let a = c.count_of-n.ensures.count kind n us o in let m = body-most h kind n us xs b in omega arith
+
+pub child_count-children-requires-clause-node : goal.child_count-children-requires-clause-node
+child_count-children-requires-clause-node c =
+    subst (λ (s : SeatState). (h kind n : ℕ) × (us xs : List Tree) × OwnsNode s.view c.args.row kind n us × Body h kind n us xs) (sym c.count_of-n.ensures.same)
+    (let (h, kind, n, us, xs, o, b, some_items) = c.requires.node in (h, kind, n, us, xs, o, b))
+
+pub row_at-first-requires-clause-link : goal.row_at-first-requires-clause-link
+row_at-first-requires-clause-link c =
+    let (h, kind, n, us, xs, o, b, some_items) = c.requires.node in
+    let m = meets h kind n us xs b some_items in
+    subst (λ v. (kind n : ℕ) × (us vs : List Tree) × (u : Tree) × OwnsNode v c.args.row kind n (us ++ u ∷ vs) × (length us ≡ 1) × (1 < 64) × (0 < tree_word u))
+    (sym (after-count (goal.at.row_at-first-requires-clause-link c).After-child_count-children)) (
+      kind,
+      n,
+      m.top ∷ [],
+      m.its ++ m.vs,
+      m.first,
+      subst (OwnsNode c.args.seat.now.view c.args.row kind n) m.one o,
+      refl,
+      omega arith,
+      let a = m.latch.here in omega arith,
+    )
+
+pub overflow_sub-n : goal.overflow_sub-n
+overflow_sub-n c =
+    let (h, kind, n, us, xs, o, b, some_items) = c.requires.node in let a = c.count_of-n.ensures.count kind n us o in omega arith
+
+leads : (c : After-row_at-first) → LeadsTo c.args.seat.now.view c.args.row 1 c.row_at-first.result
+leads c = subst (λ v. LeadsTo v c.args.row 1 c.row_at-first.result)
+    (ap (λ (s : SeatState). s.view) (c.child_count-children.ensures.same ∙ c.count_of-n.ensures.same)) c.row_at-first.ensures.row
+
+pub best_item-item-requires-clause-links : goal.best_item-item-requires-clause-links
+best_item-item-requires-clause-links c =
+    let (h, kind, n, us, xs, o, b, some_items) = c.requires.node in
+    let m = meets h kind n us xs b some_items in
+    let at = (goal.at.best_item-item-requires-clause-links c).After-row_at-first in
+    subst (λ v. HasItems v c.args.row 2 (c.count_of-n.result - 1) c.row_at-first.result) (sym (after-first at))
+    (subst (λ k. HasItems c.args.seat.now.view c.args.row 2 (k - 1) c.row_at-first.result) (sym (c.count_of-n.ensures.count kind n us o))
+    (meets-items c.args.seat.now.view c.args.row h kind n c.row_at-first.result us xs m o (leads at)))
+
+-- the best of the node's items
+best-of : (c : After-best_item-item) → (h kind n : ℕ) (us xs : List Tree) (m : Meets h kind n us xs) → OwnsNode c.args.seat.now.view c.args.row kind n us
+    → Best c.args.seat.now.view m.first m.its c.best_item-item.result
+best-of c h kind n us xs m o =
+    let first : c.row_at-first.new.seat.view ≡ c.args.seat.now.view = c.row_at-first.ensures.same.1
+    ∙ ap (λ (s : SeatState). s.view) (c.child_count-children.ensures.same ∙ c.count_of-n.ensures.same) in
+    meets-best c.args.seat.now.view c.args.row h kind n c.row_at-first.result c.best_item-item.result us xs m o
+    (subst (λ v. LeadsTo v c.args.row 1 c.row_at-first.result)
+    (ap (λ (s : SeatState). s.view) (c.child_count-children.ensures.same ∙ c.count_of-n.ensures.same)) c.row_at-first.ensures.row)
+    (subst (λ k. BestItem c.args.seat.now.view c.args.row 2 (k - 1) c.row_at-first.result c.best_item-item.result) (c.count_of-n.ensures.count kind n us o)
+    (subst (λ v. BestItem v c.args.row 2 (c.count_of-n.result - 1) c.row_at-first.result c.best_item-item.result) first c.best_item-item.ensures.best))
+
+children : (c : After-best_item-item) → (h kind n : ℕ) (us xs : List Tree) → OwnsNode c.args.seat.now.view c.args.row kind n us → Body h kind n us xs
+    → Many h c.child_count-children.result n
+children c h kind n us xs o b = c.child_count-children.ensures.count h kind n us xs
+    (subst (λ (s : SeatState). OwnsNode s.view c.args.row kind n us) (sym c.count_of-n.ensures.same) o) b
+
+pub best_below-requires-clause-links : goal.best_below-requires-clause-links
+best_below-requires-clause-links c =
+    let (h, kind, n, us, xs, o, b, some_items) = c.requires.node in
+    let m = meets h kind n us xs b some_items in
+    let at = (goal.at.best_below-requires-clause-links c).After-best_item-item in
+    subst (λ v. HasChildren v c.args.row 32 c.child_count-children.result c.best_item-item.result) (sym (after-item at))
+    (meets-children c.args.seat.now.view c.args.row h kind n c.child_count-children.result c.best_item-item.result us xs m o
+    (children at h kind n us xs o b) (best-of at h kind n us xs m o))
+
+pub returns-clause-item : goal.returns-clause-item
+returns-clause-item c = λ h kind n us xs o b some_items.
+    let m = meets h kind n us xs b some_items in
+    let at = (goal.at.returns-clause-item c).After-best_item-item in
+    meets-found c.args.seat.now.view c.args.row h kind n c.child_count-children.result c.best_item-item.result c.best_below.result us xs m o
+    (children at h kind n us xs o b) (best-of at h kind n us xs m o)
+    (subst (λ v. BestBelow v c.args.row 32 c.child_count-children.result c.best_item-item.result c.best_below.result) (after-item at) c.best_below.ensures.best)
