@@ -24,7 +24,7 @@ pub returns-then-done-clause-same : goal.returns-then-done-clause-same
 returns-then-done-clause-same c =
     let old = c.loop-round.seat in
     let asked = subst (SameRequest old) (sym c.done.ensures.seat) (same_told_end c.done.result c.args.id old) in
-    let stamped = subst (SameRequest c.done.new.seat) (sym c.stamp.ensures) (refl, refl, refl) in
+    let stamped = subst (SameRequest c.done.new.seat) (sym c.stamp.ensures.seat) (refl, refl, refl) in
     same_then c.args.seat.now old c.stamp.new.seat c.loop-round.invariant (same_then old c.done.new.seat c.stamp.new.seat asked stamped)
 
 pub poisoned_by-requires-clause-waits : goal.poisoned_by-requires-clause-waits
