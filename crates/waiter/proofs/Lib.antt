@@ -1,0 +1,6 @@
+pub mod Keeping
+pub mod Walking
+pub mod Orders
+pub mod Polling
+pub mod Firsts
+pub mod Numbering

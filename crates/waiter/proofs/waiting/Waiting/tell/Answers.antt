@@ -1,0 +1,17 @@
+use Rattle.std.proofs.Common.{◌≡◌, ℕ, true, subst}
+use Rattle.std.specs.List.{Contains}
+use Rattle.latch_model.specs.Histories.{has_ended}
+use Rattle.waiter.specs.Met.{held_of, last_of}
+use Rattle.waiter.specs.Says.{WaitingSays}
+use Rattle.waiter.proofs.Keeping.{told}
+use Rattle.waiter.proofs.waiting.Waiting.tell.Goals as goal
+
+pub invariant_of-self : goal.invariant_of-self
+invariant_of-self c =
+    let w = c.self.inside in
+    told w.who w.request w.shot w.turns (last_of w.stage
+    (held_of w.met)) w.order.items w.place.ask w.place.at w.seat c.tell.new.seat c.args.desk.now.log c.tell.ensures.seat c.self.invariant
+
+pub returns-clause-ended : goal.returns-clause-ended
+returns-clause-ended c =
+    subst (λ (x : WaitingSays). (p : ℕ) → Contains x.r.ended p → has_ended c.args.desk.now.log p ≡ true) c.self.view_is c.tell.ensures.ended
