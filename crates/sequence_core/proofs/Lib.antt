@@ -1,0 +1,12 @@
+pub mod Inserting
+pub mod LaneLists
+pub mod Order
+pub mod FourLists
+pub mod Held
+pub mod FreeLanes
+pub mod Keeping
+pub mod Counts
+pub mod NextRequest
+pub mod Resting
+pub mod Closing
+pub mod Passes

@@ -1,0 +1,8 @@
+pub mod Bounds
+pub mod Says
+pub mod Counted
+pub mod Lanes
+pub mod Book
+pub mod Lists
+pub mod Kept
+pub mod Preparing
