@@ -2,11 +2,16 @@
 #![tactic(auto)]
 
 mod counts;
+mod lines;
+mod objects;
+mod passing;
 mod text;
 pub mod worked;
 
 pub use counts::Summary;
-pub use text::{Mark, held_latch_text, latch_text, mark_text, number_text, numbers_text};
+pub use lines::render;
+pub use objects::render_json;
+pub use text::{held_latch_text, latch_text, mark_text, number_text, numbers_text};
 
 #[cfg(test)]
 mod tests;

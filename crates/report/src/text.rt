@@ -9,8 +9,9 @@ ghost use Rattle.report.specs.Words.{mark_text, marked, numbers_text};
 use hlc_stamp::Stamp;
 use latch_model::latch::Latch;
 use script::{push_after, push_bounds, push_latch, push_number, push_span, push_whole_stamp};
-use span_key::{Memory, SpanRoom};
+use span_key::Memory;
 use std::alloc::Global;
+use waiter::Mark;
 
 /// Appends a latch as scripts write it: its access, its span and its declared stamp.
 pub fn latch_text(_alloc: Global, latch: &Latch, out: &mut Vec<u8>) -> Result<(), Memory>
@@ -30,15 +31,6 @@ pub fn held_latch_text(latch: &Latch, out: &mut Vec<u8>) -> Result<(), Memory>
     let before = out.len();
     let pushed = push_mark(latch, out);
     whole_or_none(pushed, before, out)
-}
-
-/// A held latch that a request met: latch number `place`, from 0, of request `by`, with its span and its normal stamp.
-#[derive(Debug, Drop)]
-pub struct Mark {
-    pub by: u64,
-    pub place: u32,
-    pub span: SpanRoom,
-    pub stamp: Stamp,
 }
 
 /// Appends a mark: its span, and both parts of its stamp.
@@ -104,7 +96,7 @@ fn push_marked(key: &[u8], end: &[u8], stamp: Stamp, out: &mut Vec<u8>) -> Resul
     push_whole_stamp(stamp, out)
 }
 
-fn push_numbers(numbers: &[u64], out: &mut Vec<u8>) -> Result<(), Memory>
+pub(crate) fn push_numbers(numbers: &[u64], out: &mut Vec<u8>) -> Result<(), Memory>
     ensures ok { OnOk result (out.new.items ≡ out.old.items ++ numbers_text numbers.now) }
     ensures err { OnErr result (take (length out.old.items) out.new.items ≡ out.old.items) }
 {

@@ -1,4 +1,4 @@
-// Worked examples of the definitions of the reports, which no code writes yet. Each function does nothing: its contract is the example.
+// Worked examples of the definitions of the reports. Each function does nothing: its contract is the example.
 ghost use Rattle.std.specs.Prelude.{◌≡◌};
 ghost use Rattle.report.specs.Json.{report_json};
 ghost use Rattle.report.specs.Reports.{report_text};

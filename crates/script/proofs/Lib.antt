@@ -13,3 +13,8 @@ pub mod Laws
 pub mod Walked
 pub mod Spelled
 pub mod Examples
+pub mod Numbered
+pub mod Drawn
+pub mod Measured
+pub mod Generating
+pub mod Unrolled

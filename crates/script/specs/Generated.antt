@@ -66,12 +66,19 @@ first_check Acquire i ls = []
 first_check Optimistic i ls = Check (name_of i) (take 1 ls) ∷ []
 first_check Look i ls = []
 
+-- One request in 97 is poisoned.
+abbrev pub poisoning : ℕ → List Command
+poisoning i = if i % 97 == 50 then Poison (name_of i) ∷ [] else []
+
+abbrev pub begun : ℕ → List Latch → Command
+begun i ls = Begin (i % 64 + 1) (name_of i) (mode_of i) (policy_of i) None ls
+
+-- Before request i is opened, the request 64 before it is closed, which was of the same session.
+abbrev pub closed_before : ℕ → List Command
+closed_before i = if nat_le 64 i then closing (i - 64) else []
+
 abbrev pub opening_of : ℕ → List Latch → List Command
-opening_of i ls =
-    (if nat_le 64 i then closing (i - 64) else [])
-    ++ Begin (i % 64 + 1) (name_of i) (mode_of i) (policy_of i) None ls ∷ []
-    ++ first_check (mode_of i) i ls
-    ++ (if i % 97 == 50 then Poison (name_of i) ∷ [] else [])
+opening_of i ls = closed_before i ++ begun i ls ∷ [] ++ first_check (mode_of i) i ls ++ poisoning i
 
 -- n requests from request i on, after x was drawn
 abbrev pub openings_from : ℕ → ℕ → ℕ → List Command
@@ -85,6 +92,10 @@ abbrev pub closings_from : ℕ → ℕ → List Command
 closings_from zero i = []
 closings_from (suc n) i = closing i ++ closings_from n (i + 1)
 
+-- the closings of those that are still open when n requests have been opened
+abbrev pub last_closings : ℕ → List Command
+last_closings n = if nat_le n 64 then closings_from n 0 else closings_from 64 (n - 64)
+
 -- The script of n: n requests of 64 sessions in turn, of which each is closed when its session opens the next, and the others at the end.
 abbrev pub generated : ℕ → List Command
-generated n = openings_from n 0 n ++ (if nat_le n 64 then closings_from n 0 else closings_from 64 (n - 64))
+generated n = openings_from n 0 n ++ last_closings n

@@ -30,6 +30,7 @@ impl Model for Name {
 }
 
 impl Name {
+    ghost use Rattle.std.specs.String.{string_bytes};
     ghost use Rattle.script.specs.Names.{packed};
     ghost use Rattle.script.specs.Scripts.{is_name};
 
@@ -44,6 +45,14 @@ impl Name {
             }),
             Err(_) => unreachable!(),
         }
+    }
+
+    // The name with this text.
+    pub(crate) fn of(text: String) -> Name
+        requires { IsTrue (is_name (string_bytes text)) }
+        ensures { result ≡ string_bytes text }
+    {
+        Name { text }
     }
 
     /// The bytes of the name: a lower-case letter, and then lower-case letters and digits.

@@ -87,9 +87,9 @@ fn begins_decimal(text: &[u8]) -> bool
     }
 }
 
-/// The decimal number from `low` to `high` that a text spells.
+/// The decimal number from `low` to `high` that a text spells. It has no sign, and a leading zero only where it is zero.
 #[tactic(auto, unfolding(crate::specs::Fields::number_at))]
-pub(crate) fn number(low: u64, high: u64, text: &[u8]) -> Option<u64>
+pub fn number(low: u64, high: u64, text: &[u8]) -> Option<u64>
     ensures value { result ≡ number_at low high text.now }
     ensures range { IfSome result (λ n. (low ≤ n) × (n ≤ high)) }
 {
@@ -260,7 +260,8 @@ fn bounded(alloc: Global, bounds: Bounds) -> Result<Span, FieldFault>
     }
 }
 
-fn key_of(alloc: Global, bytes: &[u8]) -> Result<Key, Memory>
+// A key of these bytes.
+pub(crate) fn key_of(alloc: Global, bytes: &[u8]) -> Result<Key, Memory>
     requires { length bytes.now ≤ KEY_LIMIT }
     ensures { IfOk result (λ k. k ≡ bytes.now) }
 {

@@ -14,3 +14,6 @@ pub const TURN_LIMIT: u32 = 1_000_000;
 
 /// The most bytes of a key, or of an end, in a script.
 pub const KEY_LIMIT: usize = 256;
+
+/// The most requests of a generated script.
+pub const MAKE_LIMIT: u32 = 20_000;

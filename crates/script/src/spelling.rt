@@ -6,7 +6,7 @@ ghost use Rattle.script.specs.Scripts.{FitsLimit, IsScript, Spells, is_name, tex
 ghost use Rattle.script.specs.Worked.{first_generated};
 ghost use Rattle.script.specs.declared.command.Command.{Command};
 
-use crate::limits::COMMAND_LIMIT;
+use crate::limits::{COMMAND_LIMIT, MAKE_LIMIT};
 
 /// Bytes spell one script at most, and a script has one spelling. A fault comes exactly where the bytes spell no script.
 pub fn one_spelling()
@@ -29,4 +29,10 @@ pub fn scripts_are_short()
 /// The generated script of one request is the one that was worked out by hand.
 pub fn generated_for_one()
     ensures { generated 1 ≡ first_generated }
+{}
+
+/// Each generated script that may be asked for is a script.
+pub fn generated_is_a_script()
+    ensures script { (n : ℕ) → n ≤ MAKE_LIMIT → IsScript (generated n) }
+    ensures fits { (n : ℕ) → n ≤ MAKE_LIMIT → FitsLimit (generated n) }
 {}

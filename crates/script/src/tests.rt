@@ -282,3 +282,60 @@ fn commands_in_their_order(rt: HostRuntime) -> Result<(), Fail> {
     spelling::one_spelling();
     Ok(())
 }
+
+// The generated script of eleven requests. The fifth and the tenth are optimistic, and the last one is a look.
+const ELEVEN: &[u8] = b"latch script 1
+acquire 1 q0 wait r:610f16@93 r:610c3d-610c40@764 r:610d98@461 r:6103ce@269
+acquire 2 q1 wait r:610943@467
+acquire 3 q2 wait r:61046f@310 r:610d64@247 r:610995 r:6101fc-61021f@896
+acquire 4 q3 error r:61041d-61043b@909
+optimistic 5 q4 wait r:6101b3-6101bd@30 r:610f8a@668 r:61093d-61096e@138 r:61012a@426
+check q4 r:6101b3-6101bd@30
+acquire 6 q5 wait r:6108ae-6108be w:61007f@538
+acquire 7 q6 wait r:6109cb-6109df
+acquire 8 q7 wait r:010f60@518 r:610f1e@47
+acquire 9 q8 wait r:6107cf-6107e4@59
+optimistic 10 q9 wait r:6105b9-6105ce@11 r:6102db@68 r:6109f8@956
+check q9 r:6105b9-6105ce@11
+look 11 q10 error r:610b3b-610b4f w:61017c@827 r:610561@840 r:6103d5@155
+wait q0
+release q0
+wait q1
+release q1
+wait q2
+release q2
+wait q3
+release q3
+release q4
+wait q5
+release q5
+wait q6
+release q6
+wait q7
+release q7
+wait q8
+release q8
+wait q9
+release q9
+wait q10
+release q10
+end
+";
+
+#[test]
+fn generated_scripts_are_those_of_their_numbers(rt: HostRuntime) -> Result<(), Fail> {
+    let one = make_script(rt.alloc(), 1)?;
+    assert_eq!(rt;
+        one.text(rt.alloc())?.as_slice(),
+        b"latch script 1\nacquire 1 q0 wait r:610fd9@284 r:61075f\nwait q0\nrelease q0\nend\n".as_slice()
+    );
+    let eleven = make_script(rt.alloc(), 11)?;
+    assert_eq!(rt; eleven.text(rt.alloc())?.as_slice(), ELEVEN);
+    Ok(())
+}
+
+#[test]
+fn generated_scripts_are_read_again(rt: HostRuntime) -> Result<(), Fail> {
+    let text = make_script(rt.alloc(), 200)?.text(rt.alloc())?;
+    reads_again(&rt, rt.alloc(), text.as_slice())
+}

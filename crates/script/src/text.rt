@@ -96,7 +96,8 @@ fn put_end(out: &mut Vec<u8>, latches: &Latches) -> Result<(), Memory>
     Ok(())
 }
 
-fn mode_word(mode: Mode) -> &'static [u8]
+/// The word of a mode: the command that opens a request in it.
+pub fn mode_word(mode: Mode) -> &'static [u8]
     ensures { result.now ≡ mode_text mode }
 {
     match mode {
@@ -106,7 +107,8 @@ fn mode_word(mode: Mode) -> &'static [u8]
     }
 }
 
-fn policy_word(policy: Policy) -> &'static [u8]
+/// The word of a policy.
+pub fn policy_word(policy: Policy) -> &'static [u8]
     ensures { result.now ≡ policy_text policy }
 {
     match policy {

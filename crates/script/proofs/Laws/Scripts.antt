@@ -3,12 +3,12 @@ use Rattle.std.proofs.Common.{◌≡◌, ◌≤◌, ◌↔◌, ℕ, zero, suc, f
 use Rattle.std.proofs.Common.{codes, refl, sym, ap, subst, ◌∙◌, append-nil, append_assoc, All}
 use Rattle.std.specs.Str.{bytes_eq}
 use Rattle.std.specs.Result.{result_err}
-use Rattle.std.specs.List.{AllByRecursion, slice_split, flat_map}
+use Rattle.std.specs.List.{AllByRecursion, slice_split}
 use Rattle.std.proofs.lemmas.Bool.{ltb-false, le-ltb}
 use Rattle.std.proofs.lemmas.List.Elements.{All-from_recursion, recursion_from_All}
 use Rattle.std.proofs.lemmas.Slice.Eq.{bytes_eq-Decides}
 use Rattle.script.specs.declared.command.Command.{Command}
-use Rattle.script.specs.Commands.{fields_of, line_of, rule_cause}
+use Rattle.script.specs.Commands.{fields_of, rule_cause}
 use Rattle.script.specs.Fields.{is_byte}
 use Rattle.script.specs.Reading.{lines, commands_at, all_at, script_at, fault}
 use Rattle.script.specs.Scripts.{IsCommand, IsScript, text_of, Spells}
@@ -16,11 +16,12 @@ use Rattle.script.specs.declared.limits.TheConstants.{TEXT_LIMIT}
 use Rattle.script.proofs.Laws.Steps.{ok_is, ok_unless_err, ok_when}
 use Rattle.script.proofs.Laws.Printed.{fields_dark, no_line_feed}
 use Rattle.script.proofs.Laws.Parts.{first_part, same_parts}
+use Rattle.script.proofs.Laws.Sizes.{lines_text}
 use Rattle.script.proofs.Laws.Walk.{body, last, MayFollow, Walk, commands_take, commands_again}
 
 -- ---- the rules, by the place of a command and by steps
 
-follow_at : (earlier more : List Command) → MayFollow earlier more → (n : ℕ) (c : Command) → slice_get more n ≡ Some c
+pub follow_at : (earlier more : List Command) → MayFollow earlier more → (n : ℕ) (c : Command) → slice_get more n ≡ Some c
     → rule_cause (earlier ++ take n more) c ≡ None
 follow_at earlier [] rules n c e = absurd cc
 follow_at earlier (d ∷ more) rules zero c e =
@@ -78,9 +79,6 @@ all_again cs ok = all_step (map body cs ++ last) cs
 
 regrouped : (a : List ℕ) (x : ℕ) (f t : List ℕ) → ((a ++ x ∷ []) ++ f) ++ t ≡ a ++ x ∷ (f ++ t)
 regrouped a x f t = simp append_assoc
-
-abbrev lines_text : List Command → List ℕ
-lines_text cs = flat_map (λ c. line_of (fields_of c)) cs
 
 lines_again : (cs : List Command) (t : List ℕ) → AllByRecursion IsCommand cs
     → slice_split (is_byte 10) (lines_text cs ++ t) ≡ map body cs ++ slice_split (is_byte 10) t

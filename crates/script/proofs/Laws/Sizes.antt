@@ -71,7 +71,8 @@ line_size (Release name) ok =
     omega arith
 line_size Metrics ok = omega arith
 
-abbrev lines_text : List Command → List ℕ
+-- the lines of commands
+abbrev pub lines_text : List Command → List ℕ
 lines_text cs = flat_map (λ c. line_of (fields_of c)) cs
 
 lines_size : (cs : List Command) → AllByRecursion IsCommand cs → 7 * length cs ≤ length (lines_text cs)

@@ -1,0 +1,18 @@
+use Rattle.std.proofs.Common.{◌≡◌, ◌∙◌, ◌∷◌, ◌+◌, ap, drop, map, sym}
+use Rattle.latch_model.specs.Histories.{Begin, before, begins}
+use Rattle.report.specs.Reports.{entry_line}
+use Rattle.report.proofs.Further.{drop_next, written_next}
+use Rattle.report.proofs.lines.push_entries.Goals as goal
+
+pub loop-entry-preserved : goal.loop-entry-preserved
+loop-entry-preserved c =
+    let h = c.args.entries.now in
+    let n = c.loop-entry.entry-index in
+    let e = c.entry-item.result in
+    let next = drop_next h n e c.loop-entry-test.true c.entry-item.is in
+    let left = c.loop-entry.invariant.left ∙ ap (λ es. map (λ (b : Begin). before h b.id) (begins es)) next in record {
+      written =
+          written_next (entry_line h) h n e c.args.out.now.items c.loop-entry.out.items c.push_entry.new.out.items c.loop-entry-test.true c.entry-item.is
+          c.loop-entry.invariant.written (c.in_ok-push_entry.ensures h (c.next_list.ensures.own h (drop (n + 1) h) left));
+      left = c.next_list.ensures.others h (drop (n + 1) h) left;
+    }

@@ -1,0 +1,9 @@
+use Rattle.std.proofs.Common.{◌≡◌}
+use Rattle.std.specs.List.{list_all}
+use Rattle.report.specs.Plain.{is_plain}
+use Rattle.report.proofs.Plain.{plain_latch}
+use Rattle.report.proofs.objects.latch_value.Goals as goal
+
+pub plain_value-requires : goal.plain_value-requires
+plain_value-requires c =
+    rw (c.in_ok-push_latch.ensures.ok, c.new-text.ensures.items) (plain_latch c.args.latch.now c.key.ensures.valid c.fits.ensures.wall c.fits.ensures.logical)
