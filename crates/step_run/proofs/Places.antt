@@ -7,12 +7,8 @@ use Rattle.std.specs.List.{filter, find, position, position_or_len, remove}
 use Rattle.std.proofs.lemmas.Bool.{eq-eqb, le-ltb, lt-ltb, ltb-false, ne_eqb}
 use Rattle.std.proofs.lemmas.List.{length-map}
 use Rattle.std.proofs.lemmas.List.Sums.{position_or_len_is}
+use Rattle.step_run.specs.Valid.{Rising}
 use Rattle.latch_model.proofs.Elements.{Each, Each-map, filter_no, filter_yes, Each-filter}
-
--- strictly ascending numbers
-abbrev pub Rising : List ℕ → Type 0
-Rising [] = Unit {0}
-Rising (x ∷ xs) = Each (λ y. x < y) xs × Rising xs
 
 pub Rising-push : (xs : List ℕ) (y : ℕ) → Rising xs → Each (λ x. x < y) xs → Rising (xs ++ y ∷ [])
 Rising-push [] y r e = (tt, tt)

@@ -1,99 +1,27 @@
--- What is kept of a state, and which states a run comes to.
-use Rattle.std.proofs.Common.{◌≡◌, ℕ, ◌+◌, ◌<◌, ◌≤◌, Bool, true, false, not, cond, ◌||◌, ◌==◌, List, [], ◌∷◌, ◌++◌, map, length, Some, refl, sym, ap}
+-- States stay valid by each change that a run makes.
+use Rattle.std.proofs.Common.{◌≡◌, ℕ, ◌+◌, ◌<◌, ◌≤◌, Bool, true, false, not, ◌||◌, ◌==◌, List, [], ◌∷◌, ◌++◌, map, length, Some, refl, sym, ap}
 use Rattle.std.proofs.Common.{◌∙◌, subst, inl, inr, arith}
 use Rattle.std.specs.Prelude.{slice_get, slice_set}
 use Rattle.std.specs.List.{filter, remove}
-use Rattle.std.specs.Option.{is_some}
 use Rattle.std.proofs.lemmas.List.{length-append, map-append}
 use Rattle.std.proofs.lemmas.List.Elements.{filter-append}
 use Rattle.std.proofs.lemmas.Bool.{cases_lt, eq-eqb, ne_eqb, or_left, or_right}
-use Rattle.span_key.specs.declared.scopes.Scope.{Scope}
-use Rattle.span_key.specs.declared.scopes.Scope.TheVariants.{Global, Local}
 use Rattle.latch_model.specs.Declaration.{Declaration}
-use Rattle.latch_model.specs.Histories.{Begin, begins, has_begun, has_ended, in_front, latches_held, latches_of, open_begins}
-use Rattle.latch_model.specs.declared.latch.Latch.{Latch}
+use Rattle.latch_model.specs.Histories.{Begin, begins, has_begun, has_ended, latches_of, open_begins}
 use Rattle.latch_model.specs.declared.latch.Mode.{Mode}
 use Rattle.latch_model.specs.declared.history.Cause.{Cause}
 use Rattle.latch_model.specs.declared.history.Entry.{Entry}
 use Rattle.latch_model.specs.declared.history.Entry.TheVariants.{Begun, Ended}
 use Rattle.latch_model.specs.declared.history.Fault.{Fault}
 use Rattle.latch_model.specs.declared.history.Grant.{Grant}
-use Rattle.report.specs.Words.{summary_of}
-use Rattle.latch_model.specs.Checks.{has_cause}
-use Rattle.step_run.specs.State.{Granted, Named, Optimistic, Over, Pending, Phase, State}
-use Rattle.latch_model.specs.Metrics.{writes_in}
+use Rattle.step_run.specs.State.{Named, Over}
 use Rattle.step_run.specs.Steps.{is_over}
-use Rattle.step_run.specs.Running.{Kept, Running}
-use Rattle.step_run.specs.declared.live.Stage.{Stage}
-use Rattle.step_run.specs.declared.live.Stage.TheVariants.{Optimistic as stage_optimistic, Pending as stage_pending, Granted as stage_granted}
-use Rattle.step_run.specs.declared.live.Stage.TheVariants.{Over as stage_over}
+use Rattle.step_run.specs.Valid.{Brief, Rising, Valid, brief, brief_of, is_going}
 use Rattle.latch_model.proofs.Elements.{Each, Each-at_map, Each-filter, Each-map, filter-map, filter_yes, map_agree}
-use Rattle.step_run.proofs.Order.{unlaned}
 use Rattle.latch_model.proofs.Growing.{begins-append, begins-end}
-use Rattle.step_run.proofs.Growing.{has_begun-append, has_ended-append, in_front-append, latches_of-append, open_begins_begun, open_begins_ended, begins_self}
-use Rattle.step_run.proofs.Places.{Each-at, Each-remove, Each-set, Rising, Rising-push, Rising-remove, filter-remove, filter_over, map-filter-set}
+use Rattle.step_run.proofs.Growing.{has_begun-append, has_ended-append, latches_of-append, open_begins_begun, open_begins_ended, begins_self}
+use Rattle.step_run.proofs.Places.{Each-at, Each-remove, Each-set, Rising-push, Rising-remove, filter-remove, filter_over, map-filter-set}
 use Rattle.step_run.proofs.Places.{map-set_same}
-
-abbrev pub stage_of : Phase → Stage
-stage_of Optimistic = stage_optimistic
-stage_of Pending = stage_pending
-stage_of (Granted front) = stage_granted
-stage_of Over = stage_over
-
--- what is kept of a live name at a history
-abbrev pub kept_of : List Entry → Named → Kept
-kept_of h n = record {
-  name = n.name;
-  id = n.id;
-  mode = n.mode;
-  policy = n.policy;
-  turns = n.turns;
-  counted = n.counted;
-  stage = stage_of n.phase;
-  passed = is_some n.passed;
-  poisoned = has_cause n.cause;
-  latches = latches_of h n.id;
-  held_before = map unlaned (latches_held (in_front h n.id));
-}
-
--- the number of the last request with a write latch in a scope
-abbrev pub last_writer : Scope → ℕ → List Begin → ℕ
-last_writer scope w [] = w
-last_writer scope w (b ∷ bs) = last_writer scope (cond (writes_in scope b) b.id w) bs
-
-abbrev pub running_of : State → Running
-running_of s = record {
-  lives = map (kept_of s.history) s.names;
-  entries = length s.history;
-  summary = summary_of s.history;
-  global_writer = last_writer Global 0 (begins s.history);
-  local_writer = last_writer Local 0 (begins s.history);
-}
-
--- what matters of a begin, and of the request of a live name
-pub record Brief : Type 0 where
-  pub id : ℕ
-  pub mode : Mode
-  pub latches : List Latch
-
-abbrev pub brief : Begin → Brief
-brief b = record { id = b.id; mode = b.mode; latches = b.request.latches }
-
-abbrev pub brief_of : List Entry → Named → Brief
-brief_of h n = record { id = n.id; mode = n.mode; latches = latches_of h n.id }
-
-abbrev pub is_going : Named → Bool
-is_going n = not (is_over n.phase)
-
--- A history and live names to which a run may come. The requests have the numbers from 1 on, what has ended has begun, the live names are
--- in the order of their numbers, and those whose requests are not over are the open requests.
-pub record Valid (h : List Entry) (ns : List Named) : Type 0 where
-  pub fresh : (j : ℕ) → length (begins h) < j → has_begun h j ≡ false
-  pub unended : (j : ℕ) → length (begins h) < j → has_ended h j ≡ false
-  pub begun : Each (λ (n : Named). has_begun h n.id ≡ true) ns
-  pub rising : Rising (map (λ (n : Named). n.id) ns)
-  pub rising_begins : Rising (map (λ (x : Begin). x.id) (begins h))
-  pub going : map brief (open_begins h) ≡ map (brief_of h) (filter is_going ns)
 
 pub start_valid : Valid [] []
 start_valid = record {
@@ -131,24 +59,6 @@ begun_low h ns j v t = elim (cases_lt (length (begins h)) j) [ inl l ↦ absurd 
   where
     both_ways : {x : Bool} → x ≡ false → x ≡ true → ⊥
     both_ways f t = cc
-
-kept_stays : (h t : List Entry) (ns : List Named) → Each (λ (n : Named). has_begun h n.id ≡ true) ns →
-    Each (λ (n : Named). kept_of (h ++ t) n ≡ kept_of h n) ns
-kept_stays h t [] e = tt
-kept_stays h t (n ∷ ns) e = (
-  let p : latches_of (h ++ t) n.id ≡ latches_of h n.id = latches_of-append h t n.id e.0 in
-      let q : in_front (h ++ t) n.id ≡ in_front h n.id = in_front-append h t n.id e.0 in
-      kept_same (h ++ t) h n p (ap (λ f. map unlaned (latches_held f)) q),
-  kept_stays h t ns e.1,
-)
-  where
-    kept_same : (g h : List Entry) (n : Named) → latches_of g n.id ≡ latches_of h n.id →
-        map unlaned (latches_held (in_front g n.id)) ≡ map unlaned (latches_held (in_front h n.id)) → kept_of g n ≡ kept_of h n
-    kept_same g h n p q = cc
-
--- what is kept of the names stays while entries are added
-pub kept-append : (h t : List Entry) (ns : List Named) → Each (λ (n : Named). has_begun h n.id ≡ true) ns → map (kept_of (h ++ t)) ns ≡ map (kept_of h) ns
-kept-append h t ns e = map_agree (kept_of (h ++ t)) (kept_of h) ns (kept_stays h t ns e)
 
 brief_stays : (h t : List Entry) (ns : List Named) → Each (λ (n : Named). has_begun h n.id ≡ true) ns →
     Each (λ (n : Named). brief_of (h ++ t) n ≡ brief_of h n) ns

@@ -1,290 +1,320 @@
--- A turn of a state writes and leaves what a turn of what is kept does.
-use Rattle.std.proofs.Common.{◌≡◌, ℕ, zero, suc, ◌+◌, ◌<◌, Bool, true, false, not, cond, ◌==◌, List, [], ◌∷◌, ◌++◌, map, length, Option, Some, None}
-use Rattle.std.proofs.Common.{codes, decimal, refl, sym, ap, ◌∙◌, subst, arith, add-zero}
-use Rattle.std.specs.Prelude.{slice_get, slice_set}
-use Rattle.std.specs.List.{filter, remove}
-use Rattle.std.specs.Option.{option_map}
-use Rattle.std.proofs.lemmas.List.{length-append}
-use Rattle.std.proofs.lemmas.List.Sums.{sum_by_push}
+-- What the functions of a turn do to a run is what the definition's turn does to a state.
+use Rattle.std.proofs.Common.{◌≡◌, ℕ, ◌+◌, ◌-◌, ◌^◌, ◌<◌, Bool, true, false, not, cond, ◌&&◌, List, [], ◌∷◌, ◌++◌, length, Option, Some, None, codes, decimal, zero, suc, map, ◌⊎◌, inl, inr, refl, sym, ap, ◌∙◌, subst, arith}
+use Rattle.std.specs.Prelude.{min, slice_get}
 use Rattle.std.proofs.lemmas.Bool.{eq-eqb, ne_eqb}
-use Rattle.span_key.specs.declared.scopes.Scope.TheVariants.{Global, Local}
-use Rattle.latch_model.specs.Histories.{HeldLatch, has_begun, has_ended, latches_of, listed, met}
-use Rattle.latch_model.specs.declared.latch.Latch.{Latch}
-use Rattle.latch_model.specs.declared.latch.Mode.{Mode}
-use Rattle.latch_model.specs.declared.latch.Mode.TheVariants.{Acquire, Optimistic as optimistic_mode, Look}
-use Rattle.latch_model.specs.declared.latch.Policy.{Policy}
-use Rattle.latch_model.specs.declared.latch.Policy.TheVariants.{Wait as policy_wait, Error as policy_error}
+use Rattle.std.proofs.lemmas.List.{append-nil, append_assoc}
+use Rattle.latch_model.specs.Latches.{normal}
+use Rattle.latch_model.specs.Checks.{has_cause}
+use Rattle.latch_model.specs.Histories.{HeldLatch}
 use Rattle.latch_model.specs.declared.history.Cause.{Cause}
-use Rattle.latch_model.specs.declared.history.Cause.TheVariants.{From}
+use Rattle.latch_model.specs.declared.history.Cause.TheVariants.{None as no_cause, Called, From}
 use Rattle.latch_model.specs.declared.history.Entry.{Entry}
 use Rattle.latch_model.specs.declared.history.Entry.TheVariants.{Ended}
 use Rattle.latch_model.specs.declared.history.Fault.{Fault}
-use Rattle.latch_model.specs.declared.history.Fault.TheVariants.{None as no_fault, Poisoned, Cancelled}
+use Rattle.latch_model.specs.declared.history.Fault.TheVariants.{None as no_fault, Poisoned as by_poison, Cancelled}
 use Rattle.latch_model.specs.declared.history.Grant.{Grant}
-use Rattle.latch_model.specs.declared.history.Grant.TheVariants.{Never, Waited, Checked}
-use Rattle.latch_model.proofs.LatchLaws.{normal-at_normal}
-use Rattle.report.specs.declared.counts.Summary.{Summary}
-use Rattle.report.specs.Words.{count_ended, ended_by, is_cancelled, is_checked, is_granted, is_never, is_poisoned, mark_text, marked, summary_of}
-use Rattle.latch_model.specs.Checks.{has_cause}
-use Rattle.step_run.specs.State.{Granted, Named, Over, State, ended, is_poisoned_in, replaced, with_name, without}
-use Rattle.step_run.specs.Steps.{Step, after, blocked, blocked_line, by_poisoned, decided_by, granted, is_over, line, spent_turn, turn}
-use Rattle.step_run.specs.Running.{Kept, Running, Turned, blocked_by, blocked_now, blocker, by_poisoned_now, decided_now, granted_now, is_poisoned_among}
-use Rattle.step_run.specs.Running.{kept_line, put, spent, spread_now, turn_now, turned_at, with_ending, with_poison}
-use Rattle.step_run.specs.declared.live.Ending.{Ending}
-use Rattle.step_run.specs.declared.live.Ending.TheVariants.{Granted as by_grant, Checked as by_check, Poisoned as by_poison, Cancelled as by_cancel}
-use Rattle.step_run.specs.declared.live.Ending.TheVariants.{Never as by_never}
-use Rattle.step_run.specs.declared.live.Stage.TheVariants.{Over as stage_over}
-use Rattle.latch_model.proofs.Elements.{head}
-use Rattle.latch_model.proofs.Growing.{begins-end}
-use Rattle.step_run.proofs.Order.{unlaned}
-use Rattle.step_run.proofs.Holding.{blocker_same, poisoned_same}
-use Rattle.step_run.proofs.Places.{Each-at, Each-set, Rising, below_at, map-set}
-use Rattle.step_run.proofs.Standing.{IsAlike, Valid, kept-append, kept_of, last_writer, running_of, valid_end, valid_set}
+use Rattle.latch_model.specs.declared.history.Grant.TheVariants.{Never, Waited}
+use Rattle.latch_model.specs.declared.latch.Mode.{Mode}
+use Rattle.latch_model.specs.declared.latch.Mode.TheVariants.{Acquire, Optimistic as optimistic_mode, Look}
+use Rattle.latch_model.specs.declared.latch.Policy.{Policy}
+use Rattle.latch_model.specs.declared.latch.Policy.TheVariants.{Error}
+use Rattle.report.specs.Words.{mark_text, marked}
+use Rattle.signal_board.specs.Views.{RequestView}
+use Rattle.waiter.specs.Says.{GrantedSays, WaitingSays}
+use Rattle.step_run.specs.State.{Granted, Named, Pending, State, ended, is_poisoned_in, with_name}
+use Rattle.step_run.specs.Steps.{Step, after, blocked, by_poisoned, counted_turn, decided_by, granted, is_over, line, spent_turn, spread_to, turn}
+use Rattle.step_run.specs.Texts.{met_text, named_line, spread_text}
+use Rattle.sequence_core.specs.Says.{DeskState}
+use Rattle.step_run.specs.Lives.{LiveSays, is_none, seen_live, with_value}
+use Rattle.step_run.specs.Seen.{seen_run}
+use Rattle.step_run.specs.declared.live.Live.{Live}
+use Rattle.step_run.specs.declared.run.StepRun.{StepRun}
+use Rattle.step_run.specs.Runs.{AskedBlocked, AskedPoisoned, AskedReady, Fits, FitsName, FitsRequest, FitsTurns, HasCounted, HasTurns, IsLent, IsSame, Makes}
+use Rattle.step_run.specs.Runs.{FitsValue, Pairs, PairsBut, RunSays, Stands, StandsBut, spread_if}
+use Rattle.step_run.specs.declared.live.Value.TheVariants.{Waiting, Granted as GrantedValue}
+use Rattle.step_run.proofs.Keeping.{but_here, stands_end, stands_put}
 
--- a name by its place
-pub replaced_at : (ns : List Named) (i : ℕ) (n m : Named) → slice_get ns i ≡ Some n → m.id ≡ n.id → Rising (map (λ (n : Named). n.id) ns) →
-    replaced m ns ≡ slice_set ns i m
-replaced_at [] i n m at a r = absurd (cc)
-replaced_at (x ∷ xs) zero n m at a r =
-    let e : x.id ≡ m.id = ap (λ (n : Named). n.id) (first at) ∙ sym a in
-    ap (λ b. cond b (m ∷ xs) (x ∷ replaced m xs)) (eq-eqb x.id m.id e)
-  where
-    first : Some x ≡ Some n → x ≡ n
-    first e = cc
-replaced_at (x ∷ xs) (suc i) n m at a r =
-    let l : x.id < n.id = below_at (λ (n : Named). n.id) x.id xs i n at r.0 in
-    ap (λ b. cond b (m ∷ xs) (x ∷ replaced m xs)) (ne_eqb x.id m.id (λ g. absurd (omega arith)))
-    ∙ ap (λ ys. x ∷ ys) (replaced_at xs i n m at a r.1)
-
-pub without_at : (ns : List Named) (i : ℕ) (n : Named) → slice_get ns i ≡ Some n → Rising (map (λ (n : Named). n.id) ns) → without n.id ns ≡ remove ns i
-without_at [] i n at r = absurd (cc)
-without_at (x ∷ xs) zero n at r =
-    let e : x.id ≡ n.id = ap (λ (n : Named). n.id) (first at) in
-    ap (λ b. cond b xs (x ∷ without n.id xs)) (eq-eqb x.id n.id e)
-  where
-    first : Some x ≡ Some n → x ≡ n
-    first e = cc
-without_at (x ∷ xs) (suc i) n at r =
-    let l : x.id < n.id = below_at (λ (n : Named). n.id) x.id xs i n at r.0 in
-    ap (λ b. cond b xs (x ∷ without n.id xs)) (ne_eqb x.id n.id (λ g. absurd (omega arith)))
-    ∙ ap (λ ys. x ∷ ys) (without_at xs i n at r.1)
-
--- counts with another end
-count_push : (test : Grant → Fault → Bool) (h : List Entry) (x : Entry) → count_ended test (h ++ x ∷ []) ≡ count_ended test h + cond (ended_by test x) 1 0
-count_push test h x = sum_by_push (λ e. cond (ended_by test e) 1 0) h x
-
-pub summary_made : (b g c p x n b' g' c' p' x' n' : ℕ) → b ≡ b' → g ≡ g' → c ≡ c' → p ≡ p' → x ≡ x' → n ≡ n' →
-    (let s : Summary = record { begun = b; granted = g; checked = c; poisoned = p; cancelled = x; never = n } in s)
-    ≡ record { begun = b'; granted = g'; checked = c'; poisoned = p'; cancelled = x'; never = n' }
-summary_made b g c p x n b' g' c' p' x' n' e0 e1 e2 e3 e4 e5 = cc
-
-pub not_counted : (test : Grant → Fault → Bool) (h : List Entry) (x : Entry) → ended_by test x ≡ false → count_ended test (h ++ x ∷ []) ≡ count_ended test h
-not_counted test h x e = count_push test h x ∙ ap (λ b. count_ended test h + cond b 1 0) e ∙ add-zero (count_ended test h)
-
-pub summary_granted : (h : List Entry) (id who front : ℕ) (poison : Cause) →
-    summary_of (h ++ Ended id who (Waited front) poison no_fault ∷ []) ≡ with_ending (Some by_grant) (summary_of h)
-summary_granted h id who front poison =
-    let x : Entry = Ended id who (Waited front) poison no_fault in
-    summary_made _ _ _ _ _ _ _ _ _ _ _ _ (ap length (begins-end h id who (Waited front) poison no_fault)) (count_push is_granted h x)
-    (not_counted is_checked h x refl) (not_counted is_poisoned h x refl) (not_counted is_cancelled h x refl) (not_counted is_never h x refl)
-
-pub summary_checked : (h : List Entry) (id who : ℕ) (asked : List Latch) (poison : Cause) →
-    summary_of (h ++ Ended id who (Checked asked) poison no_fault ∷ []) ≡ with_ending (Some by_check) (summary_of h)
-summary_checked h id who asked poison =
-    let x : Entry = Ended id who (Checked asked) poison no_fault in
-    summary_made _ _ _ _ _ _ _ _ _ _ _ _ (ap length (begins-end h id who (Checked asked) poison no_fault)) (not_counted is_granted h x refl)
-    (count_push is_checked h x) (not_counted is_poisoned h x refl) (not_counted is_cancelled h x refl) (not_counted is_never h x refl)
-
-pub summary_never : (h : List Entry) (id who : ℕ) (poison : Cause) →
-    summary_of (h ++ Ended id who Never poison no_fault ∷ []) ≡ with_ending (Some by_never) (summary_of h)
-summary_never h id who poison =
-    let x : Entry = Ended id who Never poison no_fault in
-    summary_made _ _ _ _ _ _ _ _ _ _ _ _ (ap length (begins-end h id who Never poison no_fault)) (not_counted is_granted h x refl)
-    (not_counted is_checked h x refl) (not_counted is_poisoned h x refl) (not_counted is_cancelled h x refl) (count_push is_never h x)
-
-summary_poisoned : (h : List Entry) (id who p : ℕ) (poison : Cause) →
-    summary_of (h ++ Ended id who Never poison (Poisoned p) ∷ []) ≡ with_ending (Some by_poison) (summary_of h)
-summary_poisoned h id who p poison =
-    let x : Entry = Ended id who Never poison (Poisoned p) in
-    summary_made _ _ _ _ _ _ _ _ _ _ _ _ (ap length (begins-end h id who Never poison (Poisoned p))) (not_counted is_granted h x refl)
-    (not_counted is_checked h x refl) (count_push is_poisoned h x) (not_counted is_cancelled h x refl) (not_counted is_never h x refl)
-
-summary_cancelled : (h : List Entry) (id who turns : ℕ) (poison : Cause) →
-    summary_of (h ++ Ended id who Never poison (Cancelled turns) ∷ []) ≡ with_ending (Some by_cancel) (summary_of h)
-summary_cancelled h id who turns poison =
-    let x : Entry = Ended id who Never poison (Cancelled turns) in
-    summary_made _ _ _ _ _ _ _ _ _ _ _ _ (ap length (begins-end h id who Never poison (Cancelled turns))) (not_counted is_granted h x refl)
-    (not_counted is_checked h x refl) (not_counted is_poisoned h x refl) (count_push is_cancelled h x) (not_counted is_never h x refl)
-
--- What a step of a state does is what happens to what is kept, at a place.
-pub record AgreesAt (s : State) (i : ℕ) (a : Step) (t : Turned) : Type 0 where
-  pub written : a.written ≡ t.written
-  pub run : running_of a.state ≡ turned_at i t (running_of s)
-  pub valid : Valid a.state.history a.state.names
-
-pub running_made : (ls ls' : List Kept) (e e' : ℕ) (s s' : Summary) (g g' l l' : ℕ) → ls ≡ ls' → e ≡ e' → s ≡ s' → g ≡ g' → l ≡ l' →
-    (let r : Running = record { lives = ls; entries = e; summary = s; global_writer = g; local_writer = l } in r)
-    ≡ record { lives = ls'; entries = e'; summary = s'; global_writer = g'; local_writer = l' }
-running_made ls ls' e e' s s' g g' l l' e0 e1 e2 e3 e4 = cc
-
-pub after_agrees : (s : State) (i : ℕ) (a : Step) (t : Turned) (text : List ℕ) → AgreesAt s i a t → AgreesAt s i (after text a) (put text t)
-after_agrees s i a t text g = record { written = ap (λ w. text ++ w) g.written; run = g.run; valid = g.valid }
-
-pub named_lives : (h : List Entry) (ns : List Named) (i : ℕ) (n m : Named) → slice_get ns i ≡ Some n → m.id ≡ n.id →
-    Rising (map (λ (n : Named). n.id) ns) → map (kept_of h) (replaced m ns) ≡ slice_set (map (kept_of h) ns) i (kept_of h m)
-named_lives h ns i n m at a r = ap (λ ms. map (kept_of h) ms) (replaced_at ns i n m at a r) ∙ map-set (kept_of h) ns i m
-
-pub named_agrees : (s : State) (i : ℕ) (n m : Named) (text : List ℕ) → slice_get s.names i ≡ Some n → IsAlike n m →
-    is_over m.phase ≡ is_over n.phase → Valid s.history s.names → AgreesAt s i (record { written = text; state = with_name m s })
-    (record { written = text; live = kept_of s.history m; ending = None })
-named_agrees s i n m text at a o v = record {
-  written = refl;
-  run = running_made _ _ _ _ _ _ _ _ _ _ (named_lives s.history s.names i n m at a.id v.rising) (sym (add-zero (length s.history))) refl refl refl;
-  valid = subst (λ ns. Valid s.history ns) (sym (replaced_at s.names i n m at a.id v.rising)) (valid_set s.history s.names i n m at a o v);
+-- only the history and the live names of a run tell at which state it stands
+pub stands_as : (s : State) (r t : RunSays) → t.log ≡ r.log → t.lives ≡ r.lives → Stands s r → Stands s t
+stands_as s r t e f h = record {
+  history = e ∙ h.history;
+  valid = h.valid;
+  names = subst (λ (ls : List LiveSays). Pairs (Fits s.history) s.names ls) (sym f) h.names;
 }
 
-begun_here : (h : List Entry) (ns : List Named) (i : ℕ) (n : Named) → slice_get ns i ≡ Some n → Valid h ns → has_begun h n.id ≡ true
-begun_here h ns i n at v = Each-at (λ (n : Named). has_begun h n.id ≡ true) ns i n at v.begun
+pub but_as : (i : ℕ) (s : State) (r t : RunSays) → t.log ≡ r.log → t.lives ≡ r.lives → StandsBut i s r → StandsBut i s t
+but_as i s r t e f h = record {
+  history = e ∙ h.history;
+  valid = h.valid;
+  names = subst (λ (ls : List LiveSays). PairsBut i (Fits s.history) FitsName s.names ls) (sym f) h.names;
+}
 
--- the names after an end
-pub ended_lives : (h : List Entry) (ns : List Named) (i : ℕ) (n m : Named) (x : Entry) → slice_get ns i ≡ Some n → m.id ≡ n.id → Valid h ns →
-    map (kept_of (h ++ x ∷ [])) (replaced m ns) ≡ slice_set (map (kept_of h) ns) i (kept_of h m)
-ended_lives h ns i n m x at a v =
-    ap (λ ms. map (kept_of (h ++ x ∷ [])) ms) (replaced_at ns i n m at a v.rising)
-    ∙ kept-append h (x ∷ []) (slice_set ns i m) (Each-set (λ (n : Named). has_begun h n.id ≡ true) ns i m
-    (ap (λ j. has_begun h j) a ∙ begun_here h ns i n at v) v.begun)
-    ∙ map-set (kept_of h) ns i m
+pub itself : (n : Named) → IsSame n n
+itself n = record { id = refl; name = refl; session = refl; mode = refl; turns = refl }
 
-pub ended_agrees : (s : State) (i : ℕ) (n m : Named) (text : List ℕ) (grant : Grant) (fault : Fault) (ending : Ending) →
-    slice_get s.names i ≡ Some n → m.id ≡ n.id → summary_of (s.history ++ Ended m.id m.session grant m.cause fault ∷ []) ≡ with_ending (Some ending)
-    (summary_of s.history) → Valid s.history s.names → AgreesAt s i (record { written = text; state = ended grant fault m s })
-    (record { written = text; live = record (kept_of s.history m) { stage = stage_over }; ending = Some ending })
-ended_agrees s i n m text grant fault ending at a q v =
-    let over : Named = record m { phase = Over } in
-    let x : Entry = Ended m.id m.session grant m.cause fault in
-    record {
-      written = refl;
-      run = running_made _ _ _ _ _ _ _ _ _ _ (ended_lives s.history s.names i n over x at a v) (length-append s.history (x ∷ [])) q
-          (ap (λ bs. last_writer Global 0 bs) (begins-end s.history m.id m.session grant m.cause fault))
-          (ap (λ bs. last_writer Local 0 bs) (begins-end s.history m.id m.session grant m.cause fault));
-      valid = subst (λ ns. Valid (s.history ++ x ∷ []) ns) (sym (replaced_at s.names i n over at a v.rising))
-          (subst (λ j. Valid (s.history ++ Ended j m.session grant m.cause fault ∷ []) (slice_set s.names i over)) (sym a)
-          (valid_end s.history s.names i n over m.session grant m.cause fault at a refl v));
-    }
+-- what is kept of the name whose value is out
+pub lent_name : (i who : ℕ) (s : State) (r : RunSays) (n : Named) → StandsBut i s r → slice_get s.names i ≡ Some n → (k : IsLent i who r) → FitsName n k.live
+lent_name i who s r n h at k = but_here (Fits s.history) FitsName s.names r.lives i n k.live h.names at k.at
 
--- a turn that is spent
-counted_agrees : (s : State) (i : ℕ) (n m : Named) (turns : ℕ) (t : Bool) → slice_get s.names i ≡ Some n → IsAlike n m →
-    is_over m.phase ≡ is_over n.phase → Valid s.history s.names → AgreesAt s i
-    (cond t (record { written = line m (codes "cancelled"); state = ended Never (Cancelled turns) (record m { counted = m.counted + 1 }) s })
-    (record { written = []; state = with_name (record m { counted = m.counted + 1 }) s }))
-    (cond t (record {
-      written = kept_line (kept_of s.history m) (codes "cancelled");
-      live = record
-          (kept_of s.history m) { counted = m.counted + 1; stage = stage_over };
-      ending = Some by_cancel;
-    })
-    (record { written = []; live = record (kept_of s.history m) { counted = m.counted + 1 }; ending = None }))
-counted_agrees s i n m turns true at a o v =
-    let more : Named = record m { counted = m.counted + 1 } in
-    ended_agrees s i n more (line m (codes "cancelled")) Never (Cancelled turns) by_cancel at a.id
-    (summary_cancelled s.history m.id m.session turns m.cause) v
-counted_agrees s i n m turns false at a o v =
-    let more : Named = record m { counted = m.counted + 1 } in
-    (named_agrees s i n more [] at (record { id = a.id; mode = a.mode }) o v)
-
-spent_agrees : (s : State) (i : ℕ) (n m : Named) (turns : Option ℕ) → slice_get s.names i ≡ Some n → IsAlike n m → is_over m.phase ≡ is_over n.phase →
-    Valid s.history s.names → AgreesAt s i (spent_turn m s turns) (spent (kept_of s.history m) turns)
-spent_agrees s i n m None at a o v =
-    (named_agrees s i n m [] at a o v)
-spent_agrees s i n m (Some turns) at a o v = counted_agrees s i n m turns (m.counted + 1 == turns) at a o v
-
-blocked_agrees : (s : State) (i : ℕ) (n m : Named) (x : HeldLatch) → slice_get s.names i ≡ Some n → IsAlike n m → is_over m.phase ≡ is_over n.phase →
-    Valid s.history s.names → AgreesAt s i (blocked m s x) (blocked_now (kept_of s.history m) (unlaned x))
-blocked_agrees s i n m x at a o v =
-    after_agrees s i (spent_turn m s m.turns) (spent (kept_of s.history m) m.turns) (blocked_line m x) (spent_agrees s i n m m.turns at a o v)
-
-poisoned_again : (k : Kept) → k.poisoned ≡ true → k ≡ record k { poisoned = true }
-poisoned_again k e = ap (λ t. let r : Kept = record k { poisoned = t } in r) e
-
-spreads_agree : (s : State) (i : ℕ) (n : Named) (x : HeldLatch) (t : Bool) → has_cause n.cause ≡ t → slice_get s.names i ≡ Some n →
-    Valid s.history s.names → AgreesAt s i (after (cond t [] (line n (codes "spreads " ++ decimal x.by)))
-    (blocked (cond t n (record n { cause = From x.by })) s x)) (put (cond t [] (kept_line (kept_of s.history n) (codes "spreads " ++ decimal x.by)))
-    (blocked_now (record (kept_of s.history n) { poisoned = true }) (unlaned x)))
-spreads_agree s i n x true f at v =
-    subst (λ kept. AgreesAt s i (after [] (blocked n s x)) (put [] (blocked_now kept (unlaned x)))) (poisoned_again (kept_of s.history n) f)
-    (after_agrees s i (blocked n s x) (blocked_now (kept_of s.history n) (unlaned x)) []
-    (blocked_agrees s i n n x at (record { id = refl; mode = refl }) refl v))
-spreads_agree s i n x false f at v =
-    let m : Named = record n { cause = From x.by } in
-    after_agrees s i (blocked m s x) (blocked_now (kept_of s.history m) (unlaned x)) (line n (codes "spreads " ++ decimal x.by))
-    (blocked_agrees s i n m x at (record { id = refl; mode = refl }) refl v)
-
-by_poisoned_agrees : (s : State) (i : ℕ) (n : Named) (x : HeldLatch) (policy : Policy) → slice_get s.names i ≡ Some n → Valid s.history s.names →
-    AgreesAt s i (by_poisoned policy n s x) (by_poisoned_now policy (kept_of s.history n) (unlaned x))
-by_poisoned_agrees s i n x policy_wait at v = spreads_agree s i n x (has_cause n.cause) refl at v
-by_poisoned_agrees s i n x policy_error at v =
-    (ended_agrees s i n n (line n (codes "poisoned " ++ decimal x.by ++ 32 ∷ mark_text x.latch)) Never (Poisoned x.by) by_poison at refl
-    (summary_poisoned s.history n.id n.session x.by n.cause) v)
-
-met_agrees : (s : State) (i : ℕ) (n : Named) (x : HeldLatch) (t : Bool) → slice_get s.names i ≡ Some n → Valid s.history s.names →
-    AgreesAt s i (cond t (by_poisoned n.policy n s x) (blocked n s x)) (blocked_by t (kept_of s.history n) (unlaned x))
-met_agrees s i n x true at v = by_poisoned_agrees s i n x n.policy at v
-met_agrees s i n x false at v = blocked_agrees s i n n x at (record { id = refl; mode = refl }) refl v
-
-granted_agrees : (s : State) (i : ℕ) (n : Named) (mode : Mode) → slice_get s.names i ≡ Some n → is_over n.phase ≡ false → Valid s.history s.names →
-    AgreesAt s i (record { written = line n (codes "granted " ++ decimal (length s.history)); state = granted mode n s })
-    (granted_now mode (kept_of s.history n) (length s.history))
-granted_agrees s i n Acquire at o v =
-    (named_agrees s i n (record n { phase = Granted (length s.history) }) (line n (codes "granted " ++ decimal (length s.history))) at
-    (record { id = refl; mode = refl }) (sym o) v)
-granted_agrees s i n optimistic_mode at o v =
-    (named_agrees s i n (record n { phase = Granted (length s.history) }) (line n (codes "granted " ++ decimal (length s.history))) at
-    (record { id = refl; mode = refl }) (sym o) v)
-granted_agrees s i n Look at o v =
-    (ended_agrees s i n n (line n (codes "granted " ++ decimal (length s.history))) (Waited (length s.history)) no_fault by_grant at refl
-    (summary_granted s.history n.id n.session (length s.history) n.cause) v)
-
-decided_agrees : (s : State) (i : ℕ) (n : Named) (xs : List HeldLatch) → slice_get s.names i ≡ Some n → is_over n.phase ≡ false →
-    Valid s.history s.names → AgreesAt s i (decided_by n s xs) (decided_now (kept_of s.history n) (length s.history) (map (kept_of s.history) s.names)
-    (option_map unlaned (head xs)))
-decided_agrees s i n [] at o v = granted_agrees s i n n.mode at o v
-decided_agrees s i n (x ∷ xs) at o v =
-    subst (λ t. AgreesAt s i (cond (is_poisoned_in s.names x.by) (by_poisoned n.policy n s x) (blocked n s x))
-    (blocked_by t (kept_of s.history n) (unlaned x)))
-    (poisoned_same s.history s.names x.by) (met_agrees s i n x (is_poisoned_in s.names x.by) at v)
-
--- What is written of a held latch shows its normal stamp, so it is the same where the latch is listed.
-pub mark-listed : (x : HeldLatch) → mark_text (listed x).latch ≡ mark_text x.latch
-mark-listed x = ap (marked x.latch.span) (normal-at_normal x.latch)
-
-blocked-listed : (k : Kept) (x : HeldLatch) → blocked_now k (listed x) ≡ blocked_now k x
-blocked-listed k x = ap (λ text. put (kept_line k (codes "blocked " ++ decimal x.by ++ 32 ∷ text)) (spent k k.turns)) (mark-listed x)
-
-by_poisoned-listed : (policy : Policy) (k : Kept) (x : HeldLatch) → by_poisoned_now policy k (listed x) ≡ by_poisoned_now policy k x
-by_poisoned-listed policy_wait k x = ap (λ t. put (spread_now k x.by) t) (blocked-listed (with_poison k) x)
-by_poisoned-listed policy_error k x = ap failed (mark-listed x)
+-- A request that was lent ends.
+pub stands_ended : (i : ℕ) (s : State) (r t : RunSays) (n m : Named) (q : RequestView) (grant : Grant) (fault : Fault) → StandsBut i s r →
+    slice_get s.names i ≡ Some n → IsLent i q.who r → IsSame n m → FitsRequest s.history m q →
+    t.log ≡ r.log ++ Ended q.id q.who grant q.cause fault ∷ [] → t.lives ≡ r.lives → Stands (ended grant fault m s) t
+stands_ended i s r t n m q grant fault h at k same f e g =
+    let who : q.who ≡ m.session = sym k.session ∙ (lent_name i q.who s r n h at k).session ∙ sym same.session in
+    let here : Ended q.id q.who grant q.cause fault ≡ Ended m.id m.session grant m.cause fault = as_entry f.id who f.cause in
+    stands_as (ended grant fault m s) (record r { log = t.log }) t refl g
+    (stands_end s r i n m k.live grant fault t.log r.passes h at k.at k.over same (e ∙ ap (λ (x : Entry). r.log ++ x ∷ []) here))
   where
-    failed : List ℕ → Turned
-    failed text = record {
-      written = kept_line k (codes "poisoned " ++ decimal x.by ++ 32 ∷ text);
-      live = record k { stage = stage_over };
-      ending = Some by_poison;
-    }
+    as_entry : {a b c d : ℕ} {x y : Cause} → a ≡ b → c ≡ d → x ≡ y → Ended a c grant x fault ≡ Ended b d grant y fault
+    as_entry p q z = cc
 
-blocked_by-listed : (poisoned : Bool) (k : Kept) (x : HeldLatch) → blocked_by poisoned k (listed x) ≡ blocked_by poisoned k x
-blocked_by-listed true k x = by_poisoned-listed k.policy k x
-blocked_by-listed false k x = blocked-listed k x
+-- A granted request is put back, or ends where it is a look.
+pub stands_granted : (i who : ℕ) (s : State) (r t : RunSays) (n : Named) (g : GrantedSays) → StandsBut i s r → slice_get s.names i ≡ Some n →
+    is_over n.phase ≡ false → FitsRequest s.history n g.r → g.grant ≡ Waited (length s.history) → t.log ≡ r.log → t.lives ≡ with_value i (GrantedValue g) r.lives →
+    Stands (with_name (record n { phase = Granted (length s.history) }) s) t
+stands_granted i who s r t n g h at o f e a b =
+    let m : Named = record n { phase = Granted (length s.history) } in
+    stands_as (with_name m s) (record r { lives = t.lives }) t a refl
+    (stands_put s r i n m (GrantedValue g) t.lives h at (record { id = refl; name = refl; session = refl; mode = refl; turns = refl }) (sym o)
+    (record { id = f.id; policy = f.policy; latches = f.latches; shot = f.shot; cause = f.cause }, e) b)
 
-decided-listed : (k : Kept) (entries : ℕ) (lives : List Kept) (o : Option HeldLatch) →
-    decided_now k entries lives (option_map listed o) ≡ decided_now k entries lives o
-decided-listed k entries lives None = refl
-decided-listed k entries lives (Some x) = blocked_by-listed (is_poisoned_among lives x.by) k x
+pub granted_look : (s : State) (n : Named) (t : RunSays) (mode : Mode) → mode ≡ Look → Stands (ended (Waited (length s.history)) no_fault n s) t →
+    Stands (granted mode n s) t
+granted_look s n t mode e h = subst (λ (x : Mode). Stands (granted x n s) t) (sym e) h
 
-pub turn_agrees : (s : State) (i : ℕ) (n : Named) → slice_get s.names i ≡ Some n → is_over n.phase ≡ false → Valid s.history s.names →
-    AgreesAt s i (turn n s) (turn_now (kept_of s.history n) (length s.history) (map (kept_of s.history) s.names))
-turn_agrees s i n at o v =
-    let k : Kept = kept_of s.history n in
-    let lives : List Kept = map (kept_of s.history) s.names in
-    subst (λ t. AgreesAt s i (turn n s) t)
-    (ap (λ met. decided_now k (length s.history) lives met) (blocker_same s.history s.names n v) ∙ decided-listed k (length s.history) lives (blocker k lives))
-    (decided_agrees s i n (filter (λ (x : HeldLatch). not (has_ended s.history x.by)) (met s.history n.id (latches_of s.history n.id))) at o v)
+pub granted_other : (s : State) (n : Named) (t : RunSays) (mode : Mode) → (mode ≡ Look → ⊥) →
+    Stands (with_name (record n { phase = Granted (length s.history) }) s) t → Stands (granted mode n s) t
+granted_other s n t Acquire e h = h
+granted_other s n t optimistic_mode e h = h
+granted_other s n t Look e h = absurd (e refl)
+
+pub makes_granted : (s : State) (n : Named) (old w : WaitingSays) (t : RunSays) (name out new : List ℕ) (front : ℕ) → AskedReady s n old w → name ≡ n.name →
+    front ≡ length s.history → Stands (granted n.mode n s) t → new ≡ out ++ named_line name (codes "granted " ++ decimal front) → Makes (turn n s) t out new
+makes_granted s n old w t name out new front a e f h g =
+    subst (λ (x : Step). Makes x t out new) (sym (ap (decided_by n s) a.nothing)) (record {
+      written = g ∙ ap (λ (x : List ℕ). out ++ named_line x (codes "granted " ++ decimal front)) e
+          ∙ ap (λ (k : ℕ). out ++ named_line n.name (codes "granted " ++ decimal k)) f;
+      stands = h;
+    })
+
+-- The text of a held latch as snapshots list it.
+pub text_is : (words : List ℕ) (x : HeldLatch) → normal x.latch ≡ x.latch.stamp → words ++ decimal x.by ++ 32 ∷ marked x.latch.span x.latch.stamp
+    ≡ words ++ decimal x.by ++ 32 ∷ mark_text x.latch
+text_is words x e = ap (λ stamp. words ++ decimal x.by ++ 32 ∷ marked x.latch.span stamp) (sym e)
+
+-- A request fails.
+pub makes_poisoned : (s : State) (n : Named) (by : ℕ) (old w : WaitingSays) (t : RunSays) (name out new : List ℕ) → (a : AskedPoisoned s n by old w) →
+    name ≡ n.name → Stands (ended Never (by_poison by) n s) t → new ≡ out ++ named_line name (met_text (codes "poisoned ") a.latch) → Makes (turn n s) t out new
+makes_poisoned s n by old w t name out new a e h g =
+    subst (λ (x : Step). Makes x t out new) (sym whole) (record {
+      written = g ∙ ap (λ (x : List ℕ). out ++ named_line x (met_text (codes "poisoned ") a.latch)) e
+          ∙ ap (λ (x : List ℕ). out ++ named_line n.name x) (text_is (codes "poisoned ") a.latch a.shown_normal);
+      stands = subst (λ p. Stands (ended Never (by_poison p) n s) t) a.whose h;
+    })
+  where
+    whole : turn n s ≡ by_poisoned Error n s a.latch
+    whole = ap (decided_by n s) a.first
+        ∙ ap (λ b. cond b (by_poisoned n.policy n s a.latch) (blocked n s a.latch)) a.poisoned
+        ∙ ap (λ (p : Policy). by_poisoned p n s a.latch) a.policy
+
+-- A request stays blocked.
+after_is : (words : List ℕ) (u : Step) (t : RunSays) (out mid new : List ℕ) → mid ≡ out ++ words → Makes u t mid new → Makes (after words u) t out new
+after_is words u t out mid new e h = record {
+  written = h.written ∙ ap (λ (x : List ℕ). x ++ u.written) e ∙ append_assoc out words u.written;
+  stands = h.stands;
+}
+
+makes_lines : (s : State) (m : Named) (x : HeldLatch) (t : RunSays) (out mid new spread : List ℕ) → normal x.latch ≡ x.latch.stamp →
+    mid ≡ out ++ (spread ++ named_line m.name (met_text (codes "blocked ") x)) → Makes (spent_turn m s m.turns) t mid new →
+    Makes (after spread (blocked m s x)) t out new
+makes_lines s m x t out mid new spread e f h =
+    after_is spread (blocked m s x) t out (out ++ spread) new refl
+    (after_is (line m (codes "blocked " ++ decimal x.by ++ 32 ∷ mark_text x.latch)) (spent_turn m s m.turns) t (out ++ spread) mid new
+    (f ∙ sym (append_assoc out spread (named_line m.name (met_text (codes "blocked ") x)))
+    ∙ ap (λ (y : List ℕ). (out ++ spread) ++ named_line m.name y) (text_is (codes "blocked ") x e)) h)
+
+spread_name : (n : Named) (b : Bool) (p : ℕ) → (spread_if b n p).name ≡ n.name
+spread_name n false p = refl
+spread_name n true p = by (has_cause n.cause) refl
+  where
+    by : (c : Bool) → has_cause n.cause ≡ c → (spread_to n p).name ≡ n.name
+    by true e = ap (λ d. (cond d n (record n { cause = From p })).name) e
+    by false e = ap (λ d. (cond d n (record n { cause = From p })).name) e
+
+pub spread_same : (n : Named) (b : Bool) (p : ℕ) → IsSame n (spread_if b n p)
+spread_same n false p = itself n
+spread_same n true p = by (has_cause n.cause) refl
+  where
+    by : (c : Bool) → has_cause n.cause ≡ c → IsSame n (spread_to n p)
+    by true e = subst (λ (m : Named). IsSame n m) (sym (ap (λ d. cond d n (record n { cause = From p })) e)) (itself n)
+    by false e = subst (λ (m : Named). IsSame n m) (sym (ap (λ d. cond d n (record n { cause = From p })) e))
+        (record { id = refl; name = refl; session = refl; mode = refl; turns = refl })
+
+pub spread_counted : (n : Named) (b : Bool) (p : ℕ) → ((spread_if b n p).counted ≡ n.counted) × ((spread_if b n p).phase ≡ n.phase) × ((spread_if b n p).turns ≡ n.turns)
+spread_counted n false p = (refl, refl, refl)
+spread_counted n true p = by (has_cause n.cause) refl
+  where
+    Claim : Named → Type 0
+    Claim m = (m.counted ≡ n.counted) × (m.phase ≡ n.phase) × (m.turns ≡ n.turns)
+
+    by : (c : Bool) → has_cause n.cause ≡ c → Claim (spread_to n p)
+    by true e = subst Claim (sym (ap (λ d. cond d n (record n { cause = From p })) e)) (refl, refl, refl)
+    by false e = subst Claim (sym (ap (λ d. cond d n (record n { cause = From p })) e)) (refl, refl, refl)
+
+-- whether the cause is new
+pub spreads_now : (n : Named) (b : Bool) (p : ℕ) (q : RequestView) (h : List Entry) → FitsRequest h (spread_if b n p) q →
+    (not (has_cause n.cause) && not (is_none q.cause)) ≡ (b && not (has_cause n.cause))
+spreads_now n false p q h f = by n.cause q.cause f.cause
+  where
+    by : (c d : Cause) → d ≡ c → (not (has_cause c) && not (is_none d)) ≡ false
+    by no_cause d e = ap (λ x. not (is_none x)) e
+    by Called d e = refl
+    by (From r) d e = refl
+spreads_now n true p q h f = by n.cause refl
+  where
+    cause_of : (b : Bool) → has_cause n.cause ≡ b → (spread_to n p).cause ≡ cond b n.cause (From p)
+    cause_of true e = ap (λ d. (cond d n (record n { cause = From p })).cause) e
+    cause_of false e = ap (λ d. (cond d n (record n { cause = From p })).cause) e
+
+    by : (c : Cause) → n.cause ≡ c → (not (has_cause n.cause) && not (is_none q.cause)) ≡ not (has_cause n.cause)
+    by no_cause e =
+        let is : has_cause n.cause ≡ false = ap has_cause e in
+        let got : q.cause ≡ From p = f.cause ∙ cause_of false is in
+        ap (λ x. not x && not (is_none q.cause)) is ∙ ap (λ x. not (is_none x)) got ∙ sym (ap not is)
+    by Called e = let is : has_cause n.cause ≡ true = ap has_cause e in ap (λ x. not x && not (is_none q.cause)) is ∙ sym (ap not is)
+    by (From r) e = let is : has_cause n.cause ≡ true = ap has_cause e in ap (λ x. not x && not (is_none q.cause)) is ∙ sym (ap not is)
+
+-- The whole of a blocked turn.
+pub makes_blocked : (s : State) (n : Named) (by : ℕ) (old w : WaitingSays) (t : RunSays) (name out mid new : List ℕ) (spreads : Bool) →
+    (a : AskedBlocked s n by old w) → name ≡ n.name → spreads ≡ (is_poisoned_in s.names a.latch.by && not (has_cause n.cause)) →
+    mid ≡ out ++ (spread_text spreads name by ++ named_line name (met_text (codes "blocked ") a.latch)) →
+    Makes (spent_turn (spread_if (is_poisoned_in s.names a.latch.by) n a.latch.by) s (spread_if (is_poisoned_in s.names a.latch.by) n a.latch.by).turns) t mid new →
+    Makes (turn n s) t out new
+makes_blocked s n by old w t name out mid new spreads a e f g h =
+    subst (λ (x : Step). Makes x t out new) (sym (ap (decided_by n s) a.first)) (cases (is_poisoned_in s.names a.latch.by) refl)
+  where
+    m : Bool → Named
+    m b = spread_if b n a.latch.by
+
+    text : (b : Bool) → is_poisoned_in s.names a.latch.by ≡ b →
+        mid ≡ out ++ (spread_text (b && not (has_cause n.cause)) n.name a.latch.by ++ named_line n.name (met_text (codes "blocked ") a.latch))
+    text b p = g ∙ ap (λ (x : List ℕ). out ++ (spread_text spreads x by ++ named_line x (met_text (codes "blocked ") a.latch))) e
+        ∙ ap (λ y. out ++ (spread_text y n.name by ++ named_line n.name (met_text (codes "blocked ") a.latch))) (f ∙ ap (λ y. y && not (has_cause n.cause)) p)
+        ∙ ap (λ y. out ++ (spread_text (b && not (has_cause n.cause)) n.name y ++ named_line n.name (met_text (codes "blocked ") a.latch))) a.whose
+
+    rest : (b : Bool) → is_poisoned_in s.names a.latch.by ≡ b → Makes (spent_turn (m b) s (m b).turns) t mid new
+    rest b p = subst (λ y. Makes (spent_turn (m y) s (m y).turns) t mid new) p h
+
+    spread : (c : Bool) → has_cause n.cause ≡ c → spread_text (not (has_cause n.cause)) n.name a.latch.by
+        ≡ cond (has_cause n.cause) [] (line n (codes "spreads " ++ decimal a.latch.by))
+    spread true p = ap (λ y. spread_text (not y) n.name a.latch.by) p ∙ sym (ap (λ y. cond y [] (line n (codes "spreads " ++ decimal a.latch.by))) p)
+    spread false p = ap (λ y. spread_text (not y) n.name a.latch.by) p ∙ sym (ap (λ y. cond y [] (line n (codes "spreads " ++ decimal a.latch.by))) p)
+
+    cases : (b : Bool) → is_poisoned_in s.names a.latch.by ≡ b →
+        Makes (cond (is_poisoned_in s.names a.latch.by) (by_poisoned n.policy n s a.latch) (blocked n s a.latch)) t out new
+    cases true p =
+        subst (λ (x : Step). Makes x t out new)
+        (sym (ap (λ b. cond b (by_poisoned n.policy n s a.latch) (blocked n s a.latch)) p ∙ ap (λ (q : Policy). by_poisoned q n s a.latch) (a.policy p)))
+        (makes_lines s (spread_to n a.latch.by) a.latch t out mid new _ a.shown_normal
+        (text true p ∙ ap (λ (y : List ℕ). out ++ (y ++ named_line n.name (met_text (codes "blocked ") a.latch))) (spread (has_cause n.cause) refl)
+        ∙ ap (λ (y : List ℕ). out ++ (cond (has_cause n.cause) [] (line n (codes "spreads " ++ decimal a.latch.by))
+        ++ named_line y (met_text (codes "blocked ") a.latch))) (sym (spread_name n true a.latch.by)))
+        (rest true p))
+    cases false p =
+        subst (λ (x : Step). Makes x t out new) (sym (ap (λ b. cond b (by_poisoned n.policy n s a.latch) (blocked n s a.latch)) p))
+        (let h0 : Makes (after [] (blocked n s a.latch)) t out new = makes_lines s n a.latch t out mid new [] a.shown_normal (text false p) (rest false p) in
+        record { written = h0.written; stands = h0.stands })
+
+-- Turns are counted.
+pub counted_poll : (m : Named) (o : Option ℕ) (old new : ℕ) → FitsTurns o m.counted old → new ≡ min (old + 1) (2 ^ 64 - 1) → HasCounted o m.counted new
+counted_poll m None old new f e = tt
+counted_poll m (Some turns) old new f e = (let a : old ≡ m.counted = f.same in let b : m.counted < turns = f.left in let c : turns < 2 ^ 32 = f.few in omega (arith, e), f.left, f.few)
+
+pub makes_uncounted : (i : ℕ) (s : State) (r t : RunSays) (n m : Named) (w : WaitingSays) (out : List ℕ) → StandsBut i s r → slice_get s.names i ≡ Some n →
+    is_over n.phase ≡ false → IsSame n m → m.phase ≡ Pending → FitsRequest s.history m w.r → m.turns ≡ None → t.log ≡ r.log →
+    t.lives ≡ with_value i (Waiting w) r.lives → Makes (spent_turn m s m.turns) t out out
+makes_uncounted i s r t n m w out h at o same p f e a b =
+    subst (λ k. Makes (spent_turn m s k) t out out) (sym e) (record {
+      written = sym (append-nil out);
+      stands = stands_as (with_name m s) (record r { lives = t.lives }) t a refl
+          (stands_put s r i n m (Waiting w) t.lives h at same (ap is_over p ∙ sym o)
+          (subst (λ k. FitsValue s.history m k (Waiting w)) (sym p) (f, subst (λ k. FitsTurns k m.counted w.turns) (sym e) tt)) b);
+    })
+
+pub makes_counted : (i : ℕ) (s : State) (r t : RunSays) (n m : Named) (w : WaitingSays) (turns : ℕ) (out : List ℕ) → StandsBut i s r → slice_get s.names i ≡ Some n →
+    is_over n.phase ≡ false → IsSame n m → m.phase ≡ Pending → FitsRequest s.history m w.r → m.turns ≡ Some turns → HasCounted m.turns m.counted w.turns →
+    (w.turns ≡ turns → ⊥) → t.log ≡ r.log → t.lives ≡ with_value i (Waiting w) r.lives → Makes (counted_turn m s turns) t out out
+makes_counted i s r t n m w turns out h at o same p f e k d a b =
+    let c : (w.turns ≡ m.counted + 1) × (m.counted < turns) × (turns < 2 ^ 32) = subst (λ q. HasCounted q m.counted w.turns) e k in
+    let x : Named = record m { counted = m.counted + 1 } in
+    let alike : IsSame n x = record { id = same.id; name = same.name; session = same.session; mode = same.mode; turns = same.turns } in
+    let left : HasTurns turns x.counted w.turns = record {
+      same = c.0;
+      left = let g : (m.counted + 1 ≡ turns) → ⊥ = λ q. d (c.0 ∙ q) in let l : m.counted < turns = c.1 in below m.counted turns l g;
+      few = c.2;
+    } in
+    subst (λ q. Makes q t out out) (sym (ap (λ q. cond q (record { written = line m (codes "cancelled"); state = ended Never (Cancelled turns) x s })
+    (record { written = []; state = with_name x s })) (ne_eqb (m.counted + 1) turns (λ q. d (c.0 ∙ q)))))
+    (record {
+      written = sym (append-nil out);
+      stands = stands_as (with_name x s) (record r { lives = t.lives }) t a refl
+          (stands_put s r i n x (Waiting w) t.lives h at alike (ap is_over p ∙ sym o)
+          (subst (λ q. FitsValue s.history x q (Waiting w)) (sym p) (
+            record { id = f.id; policy = f.policy; latches = f.latches; shot = f.shot; cause = f.cause },
+            subst (λ q. FitsTurns q x.counted w.turns) (sym e) left,
+          )) b);
+    })
+  where
+    below : (a b : ℕ) → a < b → (a + 1 ≡ b → ⊥) → a + 1 < b
+    below a b l g = omega (arith, g)
+
+pub makes_cancelled : (i : ℕ) (s : State) (r t : RunSays) (n m : Named) (w : WaitingSays) (turns : ℕ) (name out new : List ℕ) → StandsBut i s r →
+    slice_get s.names i ≡ Some n → IsLent i w.r.who r → IsSame n m → FitsRequest s.history m w.r → m.turns ≡ Some turns → HasCounted m.turns m.counted w.turns →
+    w.turns ≡ turns → name ≡ n.name → t.log ≡ r.log ++ Ended w.r.id w.r.who Never w.r.cause (Cancelled w.turns) ∷ [] → t.lives ≡ r.lives →
+    new ≡ out ++ named_line name (codes "cancelled") → Makes (counted_turn m s turns) t out new
+makes_cancelled i s r t n m w turns name out new h at lent same f e k d g a b z =
+    let c : (w.turns ≡ m.counted + 1) × (m.counted < turns) × (turns < 2 ^ 32) = subst (λ q. HasCounted q m.counted w.turns) e k in
+    let x : Named = record m { counted = m.counted + 1 } in
+    let alike : IsSame n x = record { id = same.id; name = same.name; session = same.session; mode = same.mode; turns = same.turns } in
+    subst (λ q. Makes q t out new) (sym (ap (λ q. cond q (record { written = line m (codes "cancelled"); state = ended Never (Cancelled turns) x s })
+    (record { written = []; state = with_name x s })) (eq-eqb (m.counted + 1) turns (sym c.0 ∙ d))))
+    (record {
+      written = z ∙ ap (λ (y : List ℕ). out ++ named_line y (codes "cancelled")) (g ∙ sym same.name);
+      stands = stands_ended i s r t n x w.r Never (Cancelled turns) h at lent alike
+          (record { id = f.id; policy = f.policy; latches = f.latches; shot = f.shot; cause = f.cause })
+          (a ∙ ap (λ q. r.log ++ Ended w.r.id w.r.who Never w.r.cause (Cancelled q) ∷ []) d) b;
+    })
+
+pub not_none : (c : Cause) → not (is_none c) ≡ has_cause c
+not_none no_cause = refl
+not_none Called = refl
+not_none (From p) = refl
+
+-- a live name at a place is one
+pub same_live : (ls : List LiveSays) (i : ℕ) (a b : LiveSays) → slice_get ls i ≡ Some a → slice_get ls i ≡ Some b → a ≡ b
+same_live ls i a b e f = cc
+
+pub inside_lent : (xs : List Live) (i : ℕ) (l : LiveSays) → slice_get (map seen_live xs) i ≡ Some l → i < length xs
+inside_lent [] i l e = absurd (cc)
+inside_lent (x ∷ xs) zero l e = omega arith
+inside_lent (x ∷ xs) (suc i) l e = let k : i < length xs = inside_lent xs i l e in omega arith
+
+pub seen_desk : (run : StepRun) (desk : DeskState) → desk ≡ run.desk → seen_run (record run { desk = desk }) ≡ seen_run run
+seen_desk run desk e = ap (λ (d : DeskState). seen_run (record run { desk = d })) e
+
+pub granted_fits : (h : List Entry) (n : Named) (r : RequestView) (shown : List Entry) (front : Option ℕ) → FitsRequest h n r →
+    FitsRequest h n (record r { shown = shown; front = front })
+granted_fits h n r shown front f = record { id = f.id; policy = f.policy; latches = f.latches; shot = f.shot; cause = f.cause }
+
+pub not_look : (mode : Mode) → (mode ≡ Acquire) ⊎ (mode ≡ optimistic_mode) → mode ≡ Look → ⊥
+not_look mode (inl e) f = let x : Acquire ≡ Look = sym e ∙ f in cc
+not_look mode (inr e) f = let x : optimistic_mode ≡ Look = sym e ∙ f in cc
+
+pub blocked_counted : (n m : Named) (old w : WaitingSays) → m.turns ≡ n.turns → m.counted ≡ n.counted → FitsTurns n.turns n.counted old.turns →
+    w.turns ≡ min (old.turns + 1) (2 ^ 64 - 1) → HasCounted m.turns m.counted w.turns
+blocked_counted n m old w a b f e =
+    counted_poll m m.turns old.turns w.turns (subst (λ o. FitsTurns o m.counted old.turns) (sym a) (subst (λ k. FitsTurns n.turns k old.turns) (sym b) f)) e
+
+pub pending_of : (n : Named) → n.phase ≡ Pending → is_over n.phase ≡ false
+pending_of n e = ap is_over e

@@ -1,6 +1,13 @@
 pub mod State
 pub mod Steps
-pub mod Running
-pub mod Views
+pub mod Valid
+pub mod Lives
+pub mod Runs
+pub mod Seen
+pub mod Asked
+pub mod Openings
+pub mod Allowing
+pub mod Checking
+pub mod Texts
 pub mod Lines
-pub mod Room
+pub mod Counting

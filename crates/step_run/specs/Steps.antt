@@ -16,8 +16,7 @@ use Rattle.latch_model.specs.declared.history.Cause.TheVariants.{None as no_caus
 use Rattle.latch_model.specs.declared.history.Entry.{Entry}
 use Rattle.latch_model.specs.declared.history.Entry.TheVariants.{Begun}
 use Rattle.latch_model.specs.declared.history.Fault.TheVariants.{None as no_fault, Poisoned, Cancelled}
-use Rattle.latch_model.specs.declared.history.Grant.{Grant}
-use Rattle.latch_model.specs.declared.history.Grant.TheVariants.{Never, Waited, Checked}
+use Rattle.latch_model.specs.declared.history.Grant.TheVariants.{Never, Waited}
 use Rattle.report.specs.Words.{mark_text, numbers_text, summary_line}
 use Rattle.script.specs.Follows.{passed_grant}
 use Rattle.script.specs.Commands.{same_name}

@@ -1,22 +1,28 @@
-//! The step run of a script: its commands are run one after another on a plain list of held latches, without any wait, and what each
-//! writes is proved to be what the definition of the step output says. Beside its output a run keeps counts and what is open, and no
-//! history.
+//! The step run of a script: its commands are run one after another on a desk, without any wait, session w by pass w, and what each
+//! writes is proved to be what the definition of the step output says. All requests are ended and the desk is closed before it answers.
 #![tactic(auto)]
 
+mod command;
+mod count;
+mod hear;
 mod last;
 mod lines;
 mod live;
 mod open;
 mod run;
-mod snapshot;
 mod turn;
 
-ghost use Rattle.std.specs.Prelude.{◌≡◌, IfOk};
+ghost use Rattle.std.specs.Prelude.{◌≡◌, [], IfOk, OnOk};
 ghost use Rattle.step_run.specs.Lines.{EndsLine};
-ghost use Rattle.step_run.specs.Steps.{step_output};
+ghost use Rattle.step_run.specs.Runs.{Sound, Stands};
+ghost use Rattle.step_run.specs.Seen.{seen_run};
+ghost use Rattle.step_run.specs.State.{start};
+ghost use Rattle.step_run.specs.Steps.{run as run_of, step_output};
 
+use crate::command::step;
+use crate::count::summary;
 pub use crate::last::last_line;
-use crate::run::{start, step};
+use crate::run::{StepRun, close, start};
 use script::command::Script;
 use span_key::Memory;
 use std::alloc::Global;
@@ -47,13 +53,34 @@ pub fn run_step(alloc: Global, script: &Script) -> Result<Vec<u8>, RunFault>
 fn output_of(alloc: Global, script: &Script) -> Result<Vec<u8>, Memory>
     ensures { IfOk result (λ out. out.items ≡ step_output script.now) }
 {
-    let mut run = start(alloc);
+    let mut run = start(alloc)?;
     let mut out = Vec::new(alloc);
-    for command in script.commands() {
-        step(alloc, &mut run, command, &mut out)?;
-    }
-    run.summary.summary_text(&mut out)?;
+    let done = run_all(alloc, &mut run, script, &mut out);
+    let history = close(run);
+    done?;
+    summary(history.entries.as_slice()).summary_text(&mut out)?;
     Ok(out)
+}
+
+// All commands of a script, one after another.
+fn run_all<'s>(
+    alloc: Global,
+    run: &mut StepRun<'s>,
+    script: &'s Script,
+    out: &mut Vec<u8>,
+) -> Result<(), Memory>
+    requires sound { Sound 0 (seen_run run.old) }
+    requires start { Stands start (seen_run run.old) }
+    requires empty { out.old.items ≡ [] }
+    ensures sound { Sound 0 (seen_run run.new) }
+    ensures written { OnOk result (out.new.items ≡ (run_of start script.now).written) }
+    ensures history { OnOk result (run.new.desk.log ≡ (run_of start script.now).state.history) }
+    ensures lives { OnOk result (run.new.lives.items ≡ []) }
+{
+    for (i, command) in script.commands().iter().enumerate() {
+        step(alloc, run, i as u32 + 2, command, out)?;
+    }
+    Ok(())
 }
 
 #[cfg(test)]

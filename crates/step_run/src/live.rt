@@ -1,66 +1,32 @@
-// What is kept of a live name, and of a latch that was held in front of its begin.
-ghost use Rattle.std.specs.Prelude.{◌≡◌, ◌<◌, length, map, IfSome};
+// Live names, and the values that stand for their requests.
+ghost use Rattle.std.specs.Prelude.{◌≡◌, ℕ, ◌<◌, length, map, Some, IfSome, slice_get};
 ghost use Rattle.std.specs.List.{position};
-ghost use Rattle.std.specs.Option.{option_map};
 ghost use Rattle.script.specs.Commands.{same_name};
-ghost use Rattle.step_run.specs.Running.{is_open_among, is_over_stage, is_poisoned_among, poisoned_met};
-ghost use Rattle.step_run.specs.Views.{seen_held, seen_live};
+ghost use Rattle.latch_model.specs.declared.history.Fault.TheVariants.{None as no_fault};
+ghost use Rattle.script.specs.Follows.{passed_grant};
+ghost use Rattle.step_run.specs.Lives.{IsOf, LiveSays, called_value, ending_of, is_none, may_poison, seen_live, with_value};
 
-use latch_model::latch::{Latch, Mode, Policy};
+use latch_model::history::{Cause, Fault};
+use latch_model::latch::Mode;
 use script::command::Name;
+use std::mem;
+use waiter::{Core, Ending, Granted, Optimist, Waiting};
 
-/// A latch that a request holds: the request's number, the latch's place in the request, and the latch.
-#[derive(Clone, Copy)]
-pub(crate) struct Held<'s> {
-    pub(crate) by: u64,
-    pub(crate) place: usize,
-    pub(crate) latch: &'s Latch,
-}
-
-/// Where a request stands: optimistic, waiting for its latches, granted, or over.
-#[derive(Clone, Copy)]
-pub(crate) enum Stage {
-    Optimistic,
-    Pending,
-    Granted,
+/// What stands for the request of a live name: it checks, waits or is granted, or it has ended.
+pub(crate) enum Value {
+    Optimist(Optimist),
+    Waiting(Waiting),
+    Granted(Granted),
     Over,
 }
 
-/// How a request has ended, as the last line counts it.
-#[derive(Clone, Copy)]
-pub(crate) enum Ending {
-    Granted,
-    Checked,
-    Poisoned,
-    Cancelled,
-    Never,
-}
-
-/// A live name and its request. `counted` turns have been counted, `passed` says whether a passed check stands, and `poisoned` whether
-/// the request has a cause. `held_before` is the latches that were held in front of its begin, in the order of their begins.
-#[derive(Drop)]
+/// A live name with its session, how its request was opened, and what stands for the request.
 pub(crate) struct Live<'s> {
     pub(crate) name: &'s Name,
-    pub(crate) id: u64,
+    pub(crate) session: u32,
     pub(crate) mode: Mode,
-    pub(crate) policy: Policy,
     pub(crate) turns: Option<u32>,
-    pub(crate) counted: u64,
-    pub(crate) stage: Stage,
-    pub(crate) passed: bool,
-    pub(crate) poisoned: bool,
-    pub(crate) latches: &'s [Latch],
-    pub(crate) held_before: Vec<Held<'s>>,
-}
-
-/// Whether a request is over.
-pub(crate) fn is_over(stage: Stage) -> bool
-    ensures { result ≡ is_over_stage stage }
-{
-    match stage {
-        Stage::Optimistic | Stage::Pending | Stage::Granted => false,
-        Stage::Over => true,
-    }
+    pub(crate) value: Value,
 }
 
 /// The place of the first live name that is called so.
@@ -76,37 +42,88 @@ pub(crate) fn live_place(lives: &[Live], name: &Name) -> Option<usize>
     None
 }
 
-/// Whether the request with this number is open.
-#[inline(never)]
-pub(crate) fn is_open(lives: &[Live], id: u64) -> bool
-    ensures { result ≡ is_open_among (map seen_live lives.now) id }
+/// Takes out the value of the name at this place, which is over then.
+pub(crate) fn take(lives: &mut Vec<Live>, i: usize) -> Value
+    requires { i < length lives.old.items }
+    ensures value { (l : LiveSays) → slice_get (map seen_live lives.old.items) i ≡ Some l → result ≡ l.value }
+    ensures lives { map seen_live lives.new.items ≡ with_value i Value.Over (map seen_live lives.old.items) }
 {
-    for live in lives {
-        if live.id == id && !is_over(live.stage) {
-            return true;
-        }
-    }
-    false
+    let live = &mut lives[i];
+    mem::replace(&mut live.value, Value::Over)
 }
 
-/// Whether the request of a held latch that was met is live and has a cause.
-pub(crate) fn is_met_poisoned(lives: &[Live], met: Option<Held>) -> bool
-    ensures { result ≡ poisoned_met (map seen_live lives.now) (option_map seen_held met.entry) }
+/// Puts a value into the place of one that was taken out.
+pub(crate) fn put(lives: &mut Vec<Live>, i: usize, value: Value)
+    requires { (l : LiveSays) × (slice_get (map seen_live lives.old.items) i ≡ Some l) × (l.value ≡ Value.Over) }
+    ensures { map seen_live lives.new.items ≡ with_value i value (map seen_live lives.old.items) }
 {
-    match met {
-        Some(x) => is_poisoned(lives, x.by),
-        None => false,
+    let live = &mut lives[i];
+    match mem::replace(&mut live.value, value) {
+        Value::Over => {}
+        _held => unreachable!(),
     }
 }
 
-// Whether the request with this number is live and has a cause.
-fn is_poisoned(lives: &[Live], id: u64) -> bool
-    ensures { result ≡ is_poisoned_among (map seen_live lives.now) id }
+/// A request that is open and has no cause gets one. The answer is whether it did.
+pub(crate) fn poison(core: &Core, value: &mut Value) -> bool
+    requires { (who : ℕ) × IsOf core.now.board.table who value.old }
+    ensures value { value.new ≡ called_value value.old }
+    ensures called { result ≡ may_poison value.old }
 {
-    for live in lives {
-        if live.id == id && live.poisoned {
-            return true;
+    match value {
+        Value::Optimist(optimist) => {
+            let called = is_none(optimist.cause());
+            optimist.poison(core);
+            called
         }
+        Value::Waiting(waiting) => {
+            let called = is_none(waiting.cause());
+            waiting.poison(core);
+            called
+        }
+        Value::Granted(granted) => {
+            let called = is_none(granted.cause());
+            granted.poison(core);
+            called
+        }
+        Value::Over => false,
     }
-    false
+}
+
+/// The end of the request of a name that is released, unless it is over.
+pub(crate) fn ending(core: &Core, value: Value) -> Option<Ending>
+    requires { (who : ℕ) × IsOf core.now.board.table who value }
+    ensures { result ≡ ending_of value }
+{
+    match value {
+        Value::Optimist(optimist) => Some(check_ending(core, optimist)),
+        Value::Waiting(waiting) => {
+            let (ending, _) = waiting.abandon(core, Fault::None);
+            Some(ending)
+        }
+        Value::Granted(granted) => Some(granted.finish()),
+        Value::Over => None,
+    }
+}
+
+// An optimistic request ends by the check that passed, where one stands.
+fn check_ending(core: &Core, optimist: Optimist) -> Ending
+    requires { optimist.table ≡ core.now.board.table }
+    ensures { result ≡ record { table = optimist.table; r = optimist.r; grant = passed_grant optimist.passed; fault = no_fault } }
+{
+    if optimist.passed() {
+        optimist.confirm(core).finish()
+    } else {
+        optimist.abandon(core)
+    }
+}
+
+/// Whether there is no cause.
+pub(crate) fn is_none(cause: Cause) -> bool
+    ensures { result ≡ is_none cause }
+{
+    match cause {
+        Cause::None => true,
+        Cause::Called | Cause::From(_) => false,
+    }
 }

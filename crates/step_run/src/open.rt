@@ -1,137 +1,171 @@
-// What an opened request has to wait for, and the counts of metrics.
-ghost use Rattle.std.specs.Prelude.{◌≡◌, ℕ, ◌+◌, ◌^◌, ◌≤◌, ◌++◌, ◌&&◌, length, map, not, slice_get, IfOk, OnOk};
-ghost use Rattle.std.specs.List.{count_by, position};
-ghost use Rattle.latch_model.specs.Latches.{has_access, in_scope};
-ghost use Rattle.latch_model.specs.Checks.{is_declared};
-ghost use Rattle.step_run.specs.Running.{Kept, count_now, counts_now, held_from, holds_now, prerequisites, stage_at_first, writes_here};
-ghost use Rattle.step_run.specs.Views.{seen_live};
+// The opening of a request.
+ghost use Rattle.std.specs.Prelude.{◌≡◌, ℕ, ◌≤◌, ◌+◌, ◌<◌, ◌++◌, [], ◌∷◌, codes, decimal, false, map, length, vec_capacity, vec_len, Some, IfOk, OnOk, OnErr, slice_get};
+ghost use Rattle.latch_model.specs.Declaration.{Declaration};
+ghost use Rattle.report.specs.Words.{numbers_text};
+ghost use Rattle.script.specs.declared.limits.TheConstants.{SESSION_LIMIT};
+ghost use Rattle.sequence_core.specs.Says.{next_entry};
+ghost use Rattle.step_run.specs.Lives.{IsOf, LiveSays, has_name, has_open, seen_live};
+ghost use Rattle.step_run.specs.Openings.{IsBegun, TurnsRange, begun_request, begun_value, opening_of, opening_text};
+ghost use Rattle.step_run.specs.Runs.{Makes, Sound, Stands};
+ghost use Rattle.step_run.specs.Seen.{seen_run};
+ghost use Rattle.step_run.specs.State.{Named, State};
+ghost use Rattle.step_run.specs.Steps.{first_phase, first_turn as first_step, opening as opening_step};
+ghost use Rattle.step_run.specs.Texts.{named_line};
 
-use crate::lines::{count_text, put};
-use crate::live::{Live, Stage, is_over};
-use latch_model::latch::{Access, Latch, Latches, Mode, lies_in};
-use latch_model::prerequisites::{holds, some_conflict};
-use span_key::{Memory, Scope};
+use crate::command::wait_at;
+use crate::lines::opening_line;
+use crate::live::{Live, Value};
+use crate::run::StepRun;
+use latch_model::latch::Mode;
+use latch_model::request::Request;
+use script::command::Name;
+use sequence_core::desk::SeqRefusal;
+use sequence_core::fault::SeqFault;
+use span_key::Memory;
 use std::alloc::Global;
+use waiter::Core;
 
-/// The numbers of the requests that hold a latch which conflicts with one of these.
-#[inline(never)]
-pub(crate) fn prerequisites(
+/// What opens a request.
+#[derive(Clone, Copy)]
+pub(crate) struct Opening<'s> {
+    pub(crate) name: &'s Name,
+    pub(crate) session: u32,
+    pub(crate) mode: Mode,
+    pub(crate) turns: Option<u32>,
+}
+
+/// Opens a request that this line declares: its begin is in the history, and one that waits has its first turn.
+pub(crate) fn open<'s>(
     alloc: Global,
-    lives: &[Live],
-    latches: &[Latch],
-) -> Result<Vec<u64>, Memory>
-    ensures { IfOk result (λ before. before.items ≡ prerequisites (map seen_live lives.now) latches.now) }
-{
-    let mut before = Vec::new(alloc);
-    for live in lives {
-        if holds_latches(live) && some_conflict(latches, live.latches) {
-            before.push(live.id)?;
-        }
-    }
-    Ok(before)
-}
-
-/// Whether a request is open and holds its latches.
-pub(crate) fn holds_latches(live: &Live) -> bool
-    ensures { result ≡ holds_now (seen_live live.now) }
-{
-    holds(live.mode) && !is_over(live.stage)
-}
-
-/// Whether some latch has this scope and writes.
-pub(crate) fn has_write(latches: &[Latch], scope: Scope) -> bool
-    ensures { result ≡ writes_here scope latches.now }
-{
-    for latch in latches {
-        if latch.span.scope() == scope && latch.access == Access::Write {
-            return true;
-        }
-    }
-    false
-}
-
-/// The place of the first latch that lies in no declared one.
-pub(crate) fn undeclared(declared: &[Latch], asked: &[Latch]) -> Option<usize>
-    ensures { result ≡ position (λ l. not (is_declared declared.now l)) asked.now }
-{
-    for (i, ask) in asked.iter().enumerate() {
-        if !is_declared(declared, ask) {
-            return Some(i);
-        }
-    }
-    None
-}
-
-/// The stage of a request that has been opened.
-pub(crate) fn first_stage(mode: Mode) -> Stage
-    ensures { result ≡ stage_at_first mode }
-{
-    match mode {
-        Mode::Acquire | Mode::Look => Stage::Pending,
-        Mode::Optimistic => Stage::Optimistic,
-    }
-}
-
-/// How many reads of a scope are held, how many of these are pending, and how many writes are held. A read is pending where its request
-/// began no earlier than the last one that has a write in the scope, whose number is `writer`.
-pub(crate) fn counts_text(
-    lives: &[Live],
-    scope: Scope,
-    writer: u64,
+    run: &mut StepRun<'s>,
+    opening: Opening<'s>,
+    request: Request,
     out: &mut Vec<u8>,
 ) -> Result<(), Memory>
-    requires names { length lives.now ≤ 2 ^ 32 + 1 }
-    requires few { (i : ℕ) (n : Kept) → slice_get (map seen_live lives.now) i ≡ Some n → length n.latches ≤ Latches.LIMIT }
-    ensures { OnOk result (out.new.items ≡ out.old.items ++ counts_now scope writer (map seen_live lives.now)) }
+    requires sound { Sound 0 (seen_run run.old) }
+    requires idle { has_name opening.session (seen_run run.old).lives ≡ false }
+    requires session { (1 ≤ opening.session) × (opening.session ≤ SESSION_LIMIT) }
+    requires few { length request.latches ≤ 16 }
+    ensures sound { Sound 0 (seen_run run.new) }
+    ensures opened { (s : State) → Stands s (seen_run run.old) → s.line ≡ request.tag → TurnsRange opening.entry.turns →
+        OnOk result (Makes (opening_step s opening.entry.session opening.entry.name.now opening.entry.mode request.policy opening.entry.turns request.latches)
+        (seen_run run.new) out.old.items out.new.items) }
 {
-    count_text(b" read ", count_held(lives, scope, Access::Read, 0), out)?;
-    count_text(
-        b" pending ",
-        count_held(lives, scope, Access::Read, writer),
-        out,
-    )?;
-    count_text(b" write ", count_held(lives, scope, Access::Write, 0), out)
+    run.lives.reserve(1)?;
+    let value = begin(alloc, run, opening.session, request, opening.mode)?;
+    let i = run.lives.len();
+    push(run, opening, value);
+    write_opening(alloc, run, i, out)?;
+    first_turn(run, i, opening.mode, out)
 }
 
-// How many latches of a scope and access are held by requests with no lower number than this.
-#[inline(never)]
-fn count_held(lives: &[Live], scope: Scope, access: Access, least: u64) -> u64
-    requires names { length lives.now ≤ 2 ^ 32 + 1 }
-    requires few { (i : ℕ) (n : Kept) → slice_get (map seen_live lives.now) i ≡ Some n → length n.latches ≤ Latches.LIMIT }
-    ensures { result ≡ count_now scope access (held_from least (map seen_live lives.now)) }
+// The request begins, on the pass of its session.
+fn begin(
+    alloc: Global,
+    run: &mut StepRun,
+    session: u32,
+    request: Request,
+    mode: Mode,
+) -> Result<Value, Memory>
+    requires sound { Sound 0 (seen_run run.old) }
+    requires idle { has_open session (seen_run run.old).lives ≡ false }
+    requires session { (1 ≤ session) × (session ≤ SESSION_LIMIT) }
+    requires few { length request.latches ≤ 16 }
+    ensures lent { OnOk result (Sound session (seen_run run.new)) }
+    ensures refused { OnErr result (Sound 0 (seen_run run.new)) }
+    ensures lives { (run.new.lives ≡ run.old.lives) × (run.new.core ≡ run.old.core) × (run.new.lives.items ≡ run.old.lives.items) }
+    ensures log { OnOk result (run.new.desk.log ≡ run.old.desk.log ++ next_entry run.old.desk.log session mode request ∷ []) }
+    ensures value { IfOk result (λ value. value ≡ begun_value run.old.core.board.table mode (begun_request run.old.desk.log session mode request)) }
 {
-    let mut count = 0;
-    for live in lives {
-        if holds_latches(live) && least <= live.id {
-            count += count_latches(live.latches, scope, access);
-        }
+    let place = session as usize - 1;
+    match run
+        .desk
+        .begin(alloc, &run.core, &mut run.passes[place], request, mode)
+    {
+        Ok(opened) => Ok(match mode {
+            Mode::Optimistic => Value::Optimist(opened.optimist()),
+            Mode::Acquire | Mode::Look => Value::Waiting(opened.waiting()),
+        }),
+        Err(SeqRefusal { fault, request: _ }) => match fault {
+            SeqFault::Memory => Err(Memory),
+            SeqFault::LatchesFull { held: _, asked: _ } => unreachable!(),
+        },
     }
-    count
 }
 
-// How many latches have this scope and access.
-fn count_latches(latches: &[Latch], scope: Scope, access: Access) -> u64
-    requires { length latches.now ≤ Latches.LIMIT }
-    ensures count { result ≡ count_by (λ l. in_scope scope l && has_access access l) latches.now }
-    ensures few { result ≤ Latches.LIMIT }
+// The request gets a live name, for which there is room.
+fn push<'s>(run: &mut StepRun<'s>, opening: Opening<'s>, value: Value)
+    requires { vec_len run.old.lives < vec_capacity run.old.lives }
+    ensures lives { (seen_run run.new).lives ≡ (seen_run run.old).lives ++ opening_of opening.entry value ∷ [] }
+    ensures others { (run.new.core ≡ run.old.core) × (run.new.desk ≡ run.old.desk) × (run.new.passes.items ≡ run.old.passes.items) }
+    ensures len { length run.new.lives.items ≡ length run.old.lives.items + 1 }
 {
-    let mut count: usize = 0;
-    for latch in latches {
-        if latch.span.scope() == scope && latch.access == access {
-            count += 1;
-        }
+    let live = Live {
+        name: opening.name,
+        session: opening.session,
+        mode: opening.mode,
+        turns: opening.turns,
+        value,
+    };
+    match run.lives.push(live) {
+        Ok(()) => {}
+        Err(_refused) => unreachable!(),
     }
-    count as u64
 }
 
-// Whether a latch lies in some latch of a list.
-fn is_declared(declared: &[Latch], ask: &Latch) -> bool
-    ensures { result ≡ is_declared declared.now ask.now }
+// The line of a request that has begun just now.
+fn write_opening(
+    alloc: Global,
+    run: &mut StepRun,
+    i: usize,
+    out: &mut Vec<u8>,
+) -> Result<(), Memory>
+    requires sound { Sound 0 (seen_run run.old) }
+    requires begun { (l : LiveSays) × (slice_get (seen_run run.old).lives i ≡ Some l) × IsBegun l.value }
+    ensures run { seen_run run.new ≡ seen_run run.old }
+    ensures line { (l : LiveSays) → slice_get (seen_run run.old).lives i ≡ Some l → OnOk result (out.new.items ≡ out.old.items
+        ++ named_line l.name (opening_text l.value)) }
 {
-    for latch in declared {
-        if lies_in(ask, latch) {
-            return true;
+    let live = &mut run.lives[i];
+    begun_line(alloc, &run.core, live.name, &mut live.value, out)
+}
+
+// The same of its value.
+fn begun_line(
+    alloc: Global,
+    core: &Core,
+    name: &Name,
+    value: &mut Value,
+    out: &mut Vec<u8>,
+) -> Result<(), Memory>
+    requires begun { IsBegun value.old }
+    requires table { (who : ℕ) × IsOf core.now.board.table who value.old }
+    ensures value { value.new ≡ value.old }
+    ensures line { OnOk result (out.new.items ≡ out.old.items ++ named_line name.now (opening_text value.old)) }
+{
+    match value {
+        Value::Optimist(optimist) => {
+            let before = optimist.prerequisites(alloc, core)?;
+            opening_line(name, optimist.id(), before.as_slice(), out)
         }
+        Value::Waiting(waiting) => {
+            let before = waiting.prerequisites(alloc, core)?;
+            opening_line(name, waiting.id(), before.as_slice(), out)
+        }
+        Value::Granted(_) | Value::Over => unreachable!(),
     }
-    false
+}
+
+// The first turn of a request, unless it is optimistic.
+fn first_turn(run: &mut StepRun, i: usize, mode: Mode, out: &mut Vec<u8>) -> Result<(), Memory>
+    requires sound { Sound 0 (seen_run run.old) }
+    requires inside { i < length run.old.lives.items }
+    ensures sound { Sound 0 (seen_run run.new) }
+    ensures turn { (s : State) (n : Named) → Stands s (seen_run run.old) → slice_get s.names i ≡ Some n → n.phase ≡ first_phase mode →
+        OnOk result (Makes (first_step mode n s) (seen_run run.new) out.old.items out.new.items) }
+{
+    match mode {
+        Mode::Acquire | Mode::Look => wait_at(run, i, out),
+        Mode::Optimistic => Ok(()),
+    }
 }

@@ -1,183 +1,278 @@
-// What a turn, a check, a poisoning and a release do to a live name.
-ghost use Rattle.std.specs.Prelude.{◌≡◌, ◌+◌, ◌^◌, ◌≤◌, ◌++◌, OnOk, IfOk};
-ghost use Rattle.std.specs.Option.{option_map};
-ghost use Rattle.step_run.specs.Running.{blocked_by, blocked_now, check_now, checked_against, decided_if, ending_of, granted_now, poison_now, spent};
-ghost use Rattle.step_run.specs.Running.{spread_now, with_poison};
-ghost use Rattle.step_run.specs.Views.{TurnsTo, seen_held, seen_live};
+// The turns of a waiting request.
+ghost use Rattle.std.specs.Prelude.{◌≡◌, ℕ, ◌+◌, ◌≤◌, ◌++◌, [], ◌∷◌, codes, false, ◌&&◌, not, length, Some, OnOk, slice_get};
+ghost use Rattle.latch_model.specs.Checks.{has_cause};
+ghost use Rattle.latch_model.specs.Histories.{HeldLatch};
+ghost use Rattle.latch_model.specs.declared.history.Entry.TheVariants.{Ended};
+ghost use Rattle.latch_model.specs.declared.history.Grant.TheVariants.{Never, Waited};
+ghost use Rattle.latch_model.proofs.Elements.{Each};
+ghost use Rattle.script.specs.declared.limits.TheConstants.{SESSION_LIMIT};
+ghost use Rattle.step_run.specs.Asked.{Asked, LastIs, blocker};
+ghost use Rattle.step_run.specs.Lives.{AreWarned, IsLive, is_none};
+ghost use Rattle.step_run.specs.Runs.{AskedBlocked, AskedPoisoned, AskedReady, FitsRequest, FitsTurns, HasCounted, IsLent, IsSame, Makes, Sound, Stands};
+ghost use Rattle.step_run.specs.Runs.{StandsBut};
+ghost use Rattle.step_run.specs.Seen.{seen_run};
+ghost use Rattle.step_run.specs.State.{Named, Pending, State};
+ghost use Rattle.step_run.specs.Steps.{counted_turn, granted as granted_state, is_over, spent_turn, turn};
+ghost use Rattle.step_run.specs.Texts.{met_text, named_line, spread_text};
+ghost use Rattle.waiter.specs.Says.{Blocked, MayAbandon, Poisoned, Ready, WaitingSays};
 
-use crate::lines::{latch_line, number_line, words_line};
-use crate::live::{Ending, Held, Live, Stage, is_over};
-use crate::open::undeclared;
-use crate::snapshot::meet;
-use latch_model::latch::{Latch, Mode, Policy};
+use crate::hear::hear_some;
+use crate::lines::{number_line, polled_line, words_line};
+use crate::live::{Value, is_none, put};
+use crate::run::{StepRun, end};
+use latch_model::history::{Cause, Fault, Grant};
+use latch_model::latch::Mode;
+use script::command::Name;
+use sequence_core::desk::Desk;
 use span_key::Memory;
+use waiter::{Core, Granted, Polled, Waiting};
 
-/// A turn after so many entries, which meets a held latch of a request that is poisoned or not, or nothing.
-pub(crate) fn decide(
-    live: &mut Live,
-    entries: u64,
-    by_poisoned: bool,
-    met: Option<Held>,
+/// A turn of the request whose value was taken out of its place: it is granted, blocked, or fails.
+pub(crate) fn turn(
+    run: &mut StepRun,
+    i: usize,
+    mut waiting: Waiting,
     out: &mut Vec<u8>,
-) -> Result<Option<Ending>, Memory>
-    requires { live.old.counted ≤ 2 ^ 32 + 1 }
-    ensures { IfOk result (λ ending. TurnsTo (decided_if (seen_live live.old) entries by_poisoned
-        (option_map seen_held met.entry)) live.new out.old.items out.new.items ending) }
+) -> Result<(), Memory>
+    requires lent { IsLent i waiting.r.who (seen_run run.old) }
+    requires sound { Sound waiting.r.who (seen_run run.old) }
+    requires table { waiting.table ≡ run.old.core.board.table }
+    ensures sound { Sound 0 (seen_run run.new) }
+    ensures turn { (s : State) (n : Named) → StandsBut i s (seen_run run.old) → slice_get s.names i ≡ Some n → n.phase ≡ Pending →
+        FitsRequest s.history n waiting.r → FitsTurns n.turns n.counted waiting.turns →
+        OnOk result (Makes (turn n s) (seen_run run.new) out.old.items out.new.items) }
 {
-    match met {
-        Some(x) => block_by(live, x, by_poisoned, out),
-        None => grant(live, entries, out),
+    let had_cause = !is_none(waiting.cause());
+    match ask(run, &mut waiting) {
+        Polled::Ready => grant(run, i, waiting, out),
+        Polled::Blocked { by, place: _ } => block(run, i, by, had_cause, waiting, out),
+        Polled::Poisoned { by, place: _ } => fail(run, i, by, waiting, out),
     }
 }
 
-// Nothing is left to wait for: the request is granted, and a look ends at once.
-fn grant(live: &mut Live, entries: u64, out: &mut Vec<u8>) -> Result<Option<Ending>, Memory>
-    ensures { IfOk result (λ ending. TurnsTo (granted_now live.old.mode (seen_live live.old) entries) live.new out.old.items out.new.items ending) }
+// What a turn meets: the request has been shown the whole history, and has heard who has a cause.
+fn ask(run: &mut StepRun, waiting: &mut Waiting) -> Polled
+    requires lives { Each (IsLive run.old.core.board.table) (seen_run run.old).lives }
+    requires tables { (waiting.old.table ≡ run.old.core.board.table) × (run.old.desk.table ≡ run.old.core.board.table) }
+    ensures desk { (run.new.core ≡ run.old.core) × (run.new.desk ≡ run.old.desk) × (run.new.passes.items ≡ run.old.passes.items) }
+    ensures lives { AreWarned (seen_run run.old).lives (seen_run run.new).lives }
+    ensures same { (waiting.new.table ≡ waiting.old.table) × (waiting.new.r.who ≡ waiting.old.r.who) }
+    ensures last { LastIs waiting.new result }
+    ensures asked { (s : State) (i : ℕ) (n : Named) → StandsBut i s (seen_run run.old) → slice_get s.names i ≡ Some n →
+        FitsRequest s.history n waiting.old.r → Asked s n waiting.old waiting.new result }
 {
-    number_line(live.name, b"granted ", entries, out)?;
-    match live.mode {
-        Mode::Acquire | Mode::Optimistic => {
-            live.stage = Stage::Granted;
-            Ok(None)
-        }
-        Mode::Look => {
-            live.stage = Stage::Over;
-            Ok(Some(Ending::Granted))
+    run.desk.tell(&run.core, waiting);
+    hear_some(&run.core, &mut run.lives, waiting, 0);
+    let polled = waiting.poll(&run.core);
+    hear_some(&run.core, &mut run.lives, waiting, blocker(polled));
+    run.desk.tell(&run.core, waiting);
+    polled
+}
+
+// The number of the request that blocks, or 0.
+fn blocker(polled: Polled) -> u64
+    ensures { result ≡ blocker polled }
+{
+    match polled {
+        Polled::Ready => 0,
+        Polled::Blocked { by, place: _ } | Polled::Poisoned { by, place: _ } => by,
+    }
+}
+
+// Nothing is left to wait for.
+fn grant(run: &mut StepRun, i: usize, waiting: Waiting, out: &mut Vec<u8>) -> Result<(), Memory>
+    requires lent { IsLent i waiting.r.who (seen_run run.old) }
+    requires sound { Sound waiting.r.who (seen_run run.old) }
+    requires table { waiting.table ≡ run.old.core.board.table }
+    requires ready { waiting.last ≡ Ready }
+    ensures sound { Sound 0 (seen_run run.new) }
+    ensures turn { (s : State) (n : Named) (old : WaitingSays) → StandsBut i s (seen_run run.old) → slice_get s.names i ≡ Some n → is_over n.phase ≡ false →
+        AskedReady s n old waiting → OnOk result (Makes (turn n s) (seen_run run.new) out.old.items out.new.items) }
+{
+    let (granted, front) = stamp(&run.core, &mut run.desk, waiting);
+    let written = number_line(run.lives[i].name, b"granted ", front, out);
+    settle(run, i, granted);
+    written
+}
+
+// The request is granted by a front, which is the number of entries where it has been shown all of them.
+fn stamp(core: &Core, desk: &mut Desk, waiting: Waiting) -> (Granted, u64)
+    requires tables { (desk.old.table ≡ core.now.board.table) × (waiting.table ≡ core.now.board.table) }
+    requires ready { waiting.last ≡ Ready }
+    ensures desk { desk.new ≡ desk.old }
+    ensures front { waiting.r.shown ≡ desk.old.log → result.1 ≡ length desk.old.log }
+    ensures granted { result.0 ≡ record { table = waiting.table; r = record waiting.r { shown = desk.old.log; front = Some result.1 }; grant = Waited result.1 } }
+{
+    let mut granted = waiting.grant(core);
+    desk.tell_granted(core, &mut granted);
+    let front = front_of(&granted);
+    (granted, front)
+}
+
+// The front by which a request was granted that had waited.
+fn front_of(granted: &Granted) -> u64
+    requires { (front : ℕ) × (granted.now.grant ≡ Waited front) }
+    ensures { granted.now.grant ≡ Waited result }
+{
+    match granted.grant() {
+        Grant::Waited(front) => *front,
+        Grant::Never | Grant::Checked(_) => unreachable!(),
+    }
+}
+
+// A look ends once it is granted, and any other holds its latches.
+fn settle(run: &mut StepRun, i: usize, granted: Granted)
+    requires lent { IsLent i granted.r.who (seen_run run.old) }
+    requires sound { Sound granted.r.who (seen_run run.old) }
+    requires table { granted.table ≡ run.old.core.board.table }
+    ensures sound { Sound 0 (seen_run run.new) }
+    ensures stands { (s : State) (n : Named) → StandsBut i s (seen_run run.old) → slice_get s.names i ≡ Some n → is_over n.phase ≡ false →
+        FitsRequest s.history n granted.r → granted.grant ≡ Waited (length s.history) → Stands (granted_state n.mode n s) (seen_run run.new) }
+{
+    match run.lives[i].mode {
+        Mode::Look => end(run, granted.finish()),
+        Mode::Acquire | Mode::Optimistic => put(&mut run.lives, i, Value::Granted(granted)),
+    }
+}
+
+// A request with the policy Error meets a latch of one that has a cause.
+fn fail(
+    run: &mut StepRun,
+    i: usize,
+    by: u64,
+    waiting: Waiting,
+    out: &mut Vec<u8>,
+) -> Result<(), Memory>
+    requires lent { IsLent i waiting.r.who (seen_run run.old) }
+    requires sound { Sound waiting.r.who (seen_run run.old) }
+    requires table { waiting.table ≡ run.old.core.board.table }
+    requires poisoned { (x : HeldLatch) × (waiting.last ≡ Poisoned x) × (x.by ≡ by) }
+    ensures sound { Sound 0 (seen_run run.new) }
+    ensures turn { (s : State) (n : Named) (old : WaitingSays) → StandsBut i s (seen_run run.old) → slice_get s.names i ≡ Some n → is_over n.phase ≡ false →
+        AskedPoisoned s n by old waiting → OnOk result (Makes (turn n s) (seen_run run.new) out.old.items out.new.items) }
+{
+    let written = polled_line(run.lives[i].name, b"poisoned ", &waiting, out);
+    give_up(run, waiting, Fault::Poisoned(by));
+    written
+}
+
+// A waiting request that was lent ends with a fault.
+fn give_up(run: &mut StepRun, waiting: Waiting, fault: Fault)
+    requires sound { Sound waiting.r.who (seen_run run.old) }
+    requires table { waiting.table ≡ run.old.core.board.table }
+    requires session { (1 ≤ waiting.r.who) × (waiting.r.who ≤ SESSION_LIMIT) }
+    requires fault { MayAbandon waiting fault }
+    ensures sound { Sound 0 (seen_run run.new) }
+    ensures log { run.new.desk.log ≡ run.old.desk.log ++ Ended waiting.r.id waiting.r.who Never waiting.r.cause fault ∷ [] }
+    ensures lives { run.new.lives.items ≡ run.old.lives.items }
+{
+    let (ending, _) = waiting.abandon(&run.core, fault);
+    end(run, ending);
+}
+
+// A latch of another request is in the way, from which a cause may have spread.
+fn block(
+    run: &mut StepRun,
+    i: usize,
+    by: u64,
+    had_cause: bool,
+    waiting: Waiting,
+    out: &mut Vec<u8>,
+) -> Result<(), Memory>
+    requires lent { IsLent i waiting.r.who (seen_run run.old) }
+    requires sound { Sound waiting.r.who (seen_run run.old) }
+    requires table { waiting.table ≡ run.old.core.board.table }
+    requires blocked { (x : HeldLatch) × (waiting.last ≡ Blocked x) }
+    ensures sound { Sound 0 (seen_run run.new) }
+    ensures turn { (s : State) (n : Named) (old : WaitingSays) → StandsBut i s (seen_run run.old) → slice_get s.names i ≡ Some n → n.phase ≡ Pending →
+        FitsTurns n.turns n.counted old.turns → had_cause ≡ has_cause n.cause → AskedBlocked s n by old waiting →
+        OnOk result (Makes (turn n s) (seen_run run.new) out.old.items out.new.items) }
+{
+    let spreads = is_new(had_cause, waiting.cause());
+    match blocked_lines(run.lives[i].name, spreads, by, &waiting, out) {
+        Ok(()) => spend(run, i, waiting, out),
+        Err(refused) => {
+            put(&mut run.lives, i, Value::Waiting(waiting));
+            Err(refused)
         }
     }
 }
 
-// A held latch of another request is met, which is poisoned or not.
-fn block_by(
-    live: &mut Live,
-    x: Held,
-    by_poisoned: bool,
+fn blocked_lines(
+    name: &Name,
+    spreads: bool,
+    by: u64,
+    waiting: &Waiting,
     out: &mut Vec<u8>,
-) -> Result<Option<Ending>, Memory>
-    requires { live.old.counted ≤ 2 ^ 32 + 1 }
-    ensures { IfOk result (λ ending. TurnsTo (blocked_by by_poisoned (seen_live live.old) (seen_held x.entry)) live.new out.old.items out.new.items ending) }
+) -> Result<(), Memory>
+    ensures { (x : HeldLatch) → waiting.now.last ≡ Blocked x → OnOk result (out.new.items ≡ out.old.items ++ (spread_text spreads name.now by
+        ++ named_line name.now (met_text (codes "blocked ") x))) }
 {
-    if !by_poisoned {
-        return block(live, x, out);
-    }
-    match live.policy {
-        Policy::Wait => {
-            spread(live, x.by, out)?;
-            block(live, x, out)
-        }
-        Policy::Error => {
-            latch_line(live.name, b"poisoned ", x, out)?;
-            live.stage = Stage::Over;
-            Ok(Some(Ending::Poisoned))
-        }
+    spread_line(name, spreads, by, out)?;
+    polled_line(name, b"blocked ", waiting, out)
+}
+
+// The line of a cause that has spread, if one has.
+fn spread_line(name: &Name, spreads: bool, by: u64, out: &mut Vec<u8>) -> Result<(), Memory>
+    ensures { OnOk result (out.new.items ≡ out.old.items ++ spread_text spreads name.now by) }
+{
+    if spreads {
+        number_line(name, b"spreads ", by, out)
+    } else {
+        Ok(())
     }
 }
 
-/// A check: the first asked latch that lies in no declared one is named, and else the first held latch that is met, ended or not.
-pub(crate) fn check(
-    live: &mut Live,
-    asked: &[Latch],
-    out: &mut Vec<u8>,
-) -> Result<Option<Ending>, Memory>
-    ensures { IfOk result (λ ending. TurnsTo (check_now (seen_live live.old) asked.now) live.new out.old.items out.new.items ending) }
+// Whether a request has a cause that it had not.
+fn is_new(had_cause: bool, cause: Cause) -> bool
+    ensures { result ≡ (not had_cause && not (is_none cause)) }
 {
-    match undeclared(live.latches, asked) {
-        Some(index) => {
-            number_line(live.name, b"undeclared ", index as u64, out)?;
-            Ok(None)
-        }
+    !had_cause && !is_none(cause)
+}
+
+// A turn that didn't end the wait is spent; at the last of them the request is cancelled.
+fn spend(run: &mut StepRun, i: usize, waiting: Waiting, out: &mut Vec<u8>) -> Result<(), Memory>
+    requires lent { IsLent i waiting.r.who (seen_run run.old) }
+    requires sound { Sound waiting.r.who (seen_run run.old) }
+    requires table { waiting.table ≡ run.old.core.board.table }
+    requires blocked { (x : HeldLatch) × (waiting.last ≡ Blocked x) }
+    ensures sound { Sound 0 (seen_run run.new) }
+    ensures spent { (s : State) (n m : Named) → StandsBut i s (seen_run run.old) → slice_get s.names i ≡ Some n → is_over n.phase ≡ false →
+        IsSame n m → m.phase ≡ Pending → FitsRequest s.history m waiting.r → HasCounted m.turns m.counted waiting.turns →
+        OnOk result (Makes (spent_turn m s m.turns) (seen_run run.new) out.old.items out.new.items) }
+{
+    match run.lives[i].turns {
+        Some(turns) => count(run, i, turns, waiting, out),
         None => {
-            let met = meet(live.held_before.as_slice(), &[], false, asked);
-            check_against(live, met, out)
+            put(&mut run.lives, i, Value::Waiting(waiting));
+            Ok(())
         }
     }
 }
 
-// A check of declared latches meets a held latch, or passes.
-fn check_against(
-    live: &mut Live,
-    met: Option<Held>,
+// The same of a request with this number of turns.
+fn count(
+    run: &mut StepRun,
+    i: usize,
+    turns: u32,
+    waiting: Waiting,
     out: &mut Vec<u8>,
-) -> Result<Option<Ending>, Memory>
-    ensures { IfOk result (λ ending. TurnsTo (checked_against (seen_live live.old)
-        (option_map seen_held met.entry)) live.new out.old.items out.new.items ending) }
+) -> Result<(), Memory>
+    requires lent { IsLent i waiting.r.who (seen_run run.old) }
+    requires sound { Sound waiting.r.who (seen_run run.old) }
+    requires table { waiting.table ≡ run.old.core.board.table }
+    requires blocked { (x : HeldLatch) × (waiting.last ≡ Blocked x) }
+    ensures sound { Sound 0 (seen_run run.new) }
+    ensures counted { (s : State) (n m : Named) → StandsBut i s (seen_run run.old) → slice_get s.names i ≡ Some n → is_over n.phase ≡ false →
+        IsSame n m → m.phase ≡ Pending → FitsRequest s.history m waiting.r → m.turns ≡ Some turns → HasCounted m.turns m.counted waiting.turns →
+        OnOk result (Makes (counted_turn m s turns) (seen_run run.new) out.old.items out.new.items) }
 {
-    match met {
-        None => {
-            words_line(live.name, b"clear", out)?;
-            live.passed = true;
-            Ok(None)
-        }
-        Some(x) => {
-            latch_line(live.name, b"met ", x, out)?;
-            live.passed = false;
-            Ok(None)
-        }
+    let polls = waiting.turns();
+    if polls != u64::from(turns) {
+        put(&mut run.lives, i, Value::Waiting(waiting));
+        return Ok(());
     }
-}
-
-/// A request that isn't over and has no cause gets one.
-pub(crate) fn poison(live: &mut Live, out: &mut Vec<u8>) -> Result<Option<Ending>, Memory>
-    ensures { IfOk result (λ ending. TurnsTo (poison_now (seen_live live.old)) live.new out.old.items out.new.items ending) }
-{
-    if is_over(live.stage) || live.poisoned {
-        return Ok(None);
-    }
-    words_line(live.name, b"poisons", out)?;
-    live.poisoned = true;
-    Ok(None)
-}
-
-/// How a request ends that is released at this stage, where a passed check stands or not. One that is over has ended.
-pub(crate) fn release_ending(stage: Stage, passed: bool) -> Option<Ending>
-    ensures { result ≡ ending_of stage passed }
-{
-    match stage {
-        Stage::Optimistic => Some(if passed {
-            Ending::Checked
-        } else {
-            Ending::Never
-        }),
-        Stage::Pending => Some(Ending::Never),
-        Stage::Granted => Some(Ending::Granted),
-        Stage::Over => None,
-    }
-}
-
-// The poison of a request that is waited for spreads to one without a cause.
-fn spread(live: &mut Live, by: u64, out: &mut Vec<u8>) -> Result<(), Memory>
-    ensures written { OnOk result (out.new.items ≡ out.old.items ++ spread_now (seen_live live.old) by) }
-    ensures live { OnOk result (seen_live live.new ≡ with_poison (seen_live live.old)) }
-{
-    if !live.poisoned {
-        number_line(live.name, b"spreads ", by, out)?;
-    }
-    live.poisoned = true;
-    Ok(())
-}
-
-// A turn that doesn't end the wait is spent.
-fn block(live: &mut Live, x: Held, out: &mut Vec<u8>) -> Result<Option<Ending>, Memory>
-    requires { live.old.counted ≤ 2 ^ 32 + 1 }
-    ensures { IfOk result (λ ending. TurnsTo (blocked_now (seen_live live.old) (seen_held x.entry)) live.new out.old.items out.new.items ending) }
-{
-    latch_line(live.name, b"blocked ", x, out)?;
-    spend(live, out)
-}
-
-// A spent turn is counted where the request has a number of turns; at the last of them it is cancelled.
-fn spend(live: &mut Live, out: &mut Vec<u8>) -> Result<Option<Ending>, Memory>
-    requires { live.old.counted ≤ 2 ^ 32 + 1 }
-    ensures { IfOk result (λ ending. TurnsTo (spent (seen_live live.old) live.old.turns) live.new out.old.items out.new.items ending) }
-{
-    let Some(turns) = live.turns else {
-        return Ok(None);
-    };
-    live.counted += 1;
-    if live.counted != u64::from(turns) {
-        return Ok(None);
-    }
-    words_line(live.name, b"cancelled", out)?;
-    live.stage = Stage::Over;
-    Ok(Some(Ending::Cancelled))
+    let written = words_line(run.lives[i].name, b"cancelled", out);
+    give_up(run, waiting, Fault::Cancelled(polls));
+    written
 }

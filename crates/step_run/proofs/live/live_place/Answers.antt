@@ -1,7 +1,6 @@
 use Rattle.std.proofs.Common.{◌≡◌, ◌<◌, length, true, sym, ◌∙◌, subst, arith}
 use Rattle.script.specs.Commands.{same_name}
-use Rattle.step_run.specs.Running.{Kept}
-use Rattle.step_run.specs.Views.{seen_live}
+use Rattle.step_run.specs.Lives.{LiveSays, seen_live}
 use Rattle.step_run.specs.declared.live.Live.{Live}
 use Rattle.step_run.proofs.Places.{position_found, position_map, position_none}
 use Rattle.step_run.proofs.live.live_place.Goals as goal
@@ -11,7 +10,7 @@ returns-then-eq-clause-place c =
     let xs = c.args.lives.now in
     let name = c.args.name.now in
     let inside : c.loop-i.i < length xs = omega arith in
-    sym (position_map seen_live (λ (n : Kept). same_name n.name name) xs
+    sym (position_map seen_live (λ (n : LiveSays). same_name n.name name) xs
     ∙ position_found (λ (n : Live). same_name n.name.now name) xs c.loop-i.i c.index-lives-i.result inside
     (λ k l. c.loop-i.invariant k c.index-lives-i.result l)
     (let here : same_name c.index-lives-i.result.name.now name ≡ true = cc in subst (λ (n : Live). same_name n.name.now name ≡ true) c.index-lives-i.is here))
@@ -20,5 +19,5 @@ pub returns-clause-place : goal.returns-clause-place
 returns-clause-place c =
     let xs = c.args.lives.now in
     let name = c.args.name.now in
-    sym (position_map seen_live (λ (n : Kept). same_name n.name name) xs
+    sym (position_map seen_live (λ (n : LiveSays). same_name n.name name) xs
     ∙ position_none (λ (n : Live). same_name n.name.now name) xs (λ k d l. c.loop-i.invariant k d (omega arith)))

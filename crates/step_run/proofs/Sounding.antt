@@ -1,0 +1,332 @@
+-- A run stays sound by each change of its passes and of its live names.
+use Rattle.std.proofs.Common.{◌≡◌, ◌≢◌, ℕ, zero, suc, ◌+◌, ◌-◌, ◌≤◌, Bool, true, false, ◌&&◌, ◌||◌, ◌==◌, List, [], ◌∷◌, ◌++◌, length, Some, refl, sym}
+use Rattle.std.proofs.Common.{ap, ◌∙◌, subst, arith}
+use Rattle.std.specs.Prelude.{slice_get, slice_set}
+use Rattle.std.specs.List.{remove}
+use Rattle.std.proofs.lemmas.Bool.{eq-eqb, eqb-true, ne_eqb, or_left, or_right}
+use Rattle.std.proofs.lemmas.List.Folds.{list_any-append}
+use Rattle.atomic_table.specs.Seated.{TableId}
+use Rattle.latch_model.specs.declared.history.Entry.{Entry}
+use Rattle.latch_model.proofs.Elements.{Each, Each-append}
+use Rattle.signal_board.specs.Rule.{open_count}
+use Rattle.signal_board.specs.Says.{PassSays}
+use Rattle.waiter.specs.Says.{OptimistSays, WaitingSays}
+use Rattle.step_run.specs.Lives.{AreWarned, IsLive, IsOf, LiveSays, has_name, has_open, is_held, lent_by, warned_live, warned_value, with_value}
+use Rattle.step_run.specs.Runs.{IsLent, IsPass, RunSays, Sound}
+use Rattle.step_run.specs.declared.live.Value.{Value}
+use Rattle.step_run.specs.declared.live.Value.TheVariants.{Optimist, Waiting, Granted, Over}
+use Rattle.step_run.proofs.Places.{Each-at, Each-remove}
+
+-- whether a session has an open request, after a change
+or_same : (a b c : Bool) → a ≡ b → (a || c) ≡ (b || c)
+or_same a b c e = ap (λ x. x || c) e
+
+both_false : (a b : Bool) → a ≡ false → (a && b) ≡ false
+both_false true b e = absurd (cc)
+both_false false b e = refl
+
+pub open_other : (j i : ℕ) (v : Value) (ls : List LiveSays) (l : LiveSays) → slice_get ls i ≡ Some l → l.session ≢ j →
+    has_open j (with_value i v ls) ≡ has_open j ls
+open_other j i v [] l e f = absurd (cc)
+open_other j zero v (x ∷ xs) l e f =
+    let same : x ≡ l = cc in
+    let other : (x.session == j) ≡ false = ne_eqb x.session j (λ g. f (ap (λ (y : LiveSays). y.session) (sym same) ∙ g)) in
+    or_same _ _ (has_open j xs) (both_false (x.session == j) (is_held v) other ∙ sym (both_false (x.session == j) (is_held x.value) other))
+open_other j (suc i) v (x ∷ xs) l e f = ap (λ b. ((x.session == j) && is_held x.value) || b) (open_other j i v xs l e f)
+
+open_held : (j i : ℕ) (v : Value) (ls : List LiveSays) (l : LiveSays) → slice_get ls i ≡ Some l → l.session ≡ j → is_held v ≡ true →
+    has_open j (with_value i v ls) ≡ true
+open_held j i v [] l e f g = absurd (cc)
+open_held j zero v (x ∷ xs) l e f g =
+    let same : x ≡ l = cc in
+    or_left _ (has_open j xs) (both_true (x.session == j) (is_held v) (eq-eqb x.session j (ap (λ (y : LiveSays). y.session) same ∙ f)) g)
+  where
+    both_true : (a b : Bool) → a ≡ true → b ≡ true → (a && b) ≡ true
+    both_true true b e f = f
+    both_true false b e f = absurd (cc)
+open_held j (suc i) v (x ∷ xs) l e f g = or_right _ (has_open j (with_value i v xs)) (open_held j i v xs l e f g)
+
+open_removed : (j i : ℕ) (ls : List LiveSays) (l : LiveSays) → slice_get ls i ≡ Some l → ((l.session == j) && is_held l.value) ≡ false →
+    has_open j (remove ls i) ≡ has_open j ls
+open_removed j i [] l e f = absurd (cc)
+open_removed j zero (x ∷ xs) l e f =
+    let same : x ≡ l = cc in
+    sym (ap (λ b. b || has_open j xs) (ap (λ (y : LiveSays). (y.session == j) && is_held y.value) same ∙ f))
+open_removed j (suc i) (x ∷ xs) l e f = ap (λ b. ((x.session == j) && is_held x.value) || b) (open_removed j i xs l e f)
+
+open_pushed : (j : ℕ) (ls : List LiveSays) (l : LiveSays) → has_open j (ls ++ l ∷ []) ≡ (has_open j ls || (((l.session == j) && is_held l.value) || false))
+open_pushed j ls l = list_any-append (λ (x : LiveSays). (x.session == j) && is_held x.value) ls (l ∷ [])
+
+held_warned : (ps : List ℕ) (v : Value) → is_held (warned_value ps v) ≡ is_held v
+held_warned ps (Optimist o) = refl
+held_warned ps (Waiting w) = refl
+held_warned ps (Granted g) = refl
+held_warned ps Over = refl
+
+open_warned : (j : ℕ) (ls ms : List LiveSays) → AreWarned ls ms → has_open j ms ≡ has_open j ls
+open_warned j [] [] h = refl
+open_warned j [] (m ∷ ms) h = absurd h
+open_warned j (l ∷ ls) [] h = absurd h
+open_warned j (l ∷ ls) (m ∷ ms) h = both_or (one h.0.0 h.0.1) (open_warned j ls ms h.1)
+  where
+    one : (ps : List ℕ) → m ≡ warned_live ps l → ((m.session == j) && is_held m.value) ≡ ((l.session == j) && is_held l.value)
+    one ps e = ap (λ (x : LiveSays). (x.session == j) && is_held x.value) e ∙ ap (λ b. (l.session == j) && b) (held_warned ps l.value)
+
+    both_or : {a b x y : Bool} → a ≡ b → x ≡ y → (a || x) ≡ (b || y)
+    both_or e f = cc
+
+-- each live name after a change
+of_warned : (t : TableId) (who : ℕ) (ps : List ℕ) (v : Value) → IsOf t who v → IsOf t who (warned_value ps v)
+of_warned t who ps (Optimist o) h = h
+of_warned t who ps (Waiting w) h = h
+of_warned t who ps (Granted g) h = h
+of_warned t who ps Over h = tt
+
+live_warned : (t : TableId) (ps : List ℕ) (l m : LiveSays) → m ≡ warned_live ps l → IsLive t l → IsLive t m
+live_warned t ps l m e h =
+    subst (λ (x : LiveSays). IsLive t x) (sym e) (record { low = h.low; high = h.high; of = of_warned t l.session ps l.value h.of })
+
+pub lives_warned : (t : TableId) (ls ms : List LiveSays) → AreWarned ls ms → Each (IsLive t) ls → Each (IsLive t) ms
+lives_warned t [] [] h k = tt
+lives_warned t [] (m ∷ ms) h k = absurd h
+lives_warned t (l ∷ ls) [] h k = absurd h
+lives_warned t (l ∷ ls) (m ∷ ms) h k = (live_warned t h.0.0 l m h.0.1 k.0, lives_warned t ls ms h.1 k.1)
+
+lives_valued : (t : TableId) (i : ℕ) (v : Value) (ls : List LiveSays) → ((l : LiveSays) → slice_get ls i ≡ Some l → IsOf t l.session v) → Each (IsLive t) ls →
+    Each (IsLive t) (with_value i v ls)
+lives_valued t zero v [] f h = tt
+lives_valued t (suc i) v [] f h = tt
+lives_valued t zero v (l ∷ ls) f h = (record { low = h.0.low; high = h.0.high; of = f l refl }, h.1)
+lives_valued t (suc i) v (l ∷ ls) f h = (h.0, lives_valued t i v ls f h.1)
+
+-- Other live names, of which each session without an open request had none before.
+with_lives : (r : RunSays) (old new : ℕ) (ls : List LiveSays) →
+    ((j : ℕ) → j ≢ 0 → j ≢ new → has_open j ls ≡ false → (j ≢ old) × (has_open j r.lives ≡ false)) → Each (IsLive r.board) ls → Sound old r →
+    Sound new (record r { lives = ls })
+with_lives r old new ls f g h = record {
+  table = h.table;
+  sizes = h.sizes;
+  given = h.given;
+  count = h.count;
+  passes = λ i p e. let k = h.passes i p e in record {
+    table = k.table;
+    who = k.who;
+    idle = λ d o. let w = f (i + 1) (λ z. absurd (omega arith)) d o in k.idle w.0 w.1;
+  };
+  lives = g;
+}
+
+-- A value is lent.
+pub sound_take : (r : RunSays) (i : ℕ) (l : LiveSays) (ls : List LiveSays) → slice_get r.lives i ≡ Some l → ls ≡ with_value i Over r.lives → Sound 0 r →
+    Sound l.session (record r { lives = ls })
+sound_take r i l ls at e h =
+    with_lives r 0 l.session ls
+    (λ j z d o. (z, sym (open_other j i Over r.lives l at (λ g. d (sym g))) ∙ ap (λ (xs : List LiveSays). has_open j xs) (sym e) ∙ o))
+    (subst (λ (xs : List LiveSays). Each (IsLive r.board) xs) (sym e) (lives_valued r.board i Over r.lives (λ l e. tt) h.lives)) h
+
+pub lent_take : (r : RunSays) (i : ℕ) (l : LiveSays) (ls : List LiveSays) → slice_get r.lives i ≡ Some l → ls ≡ with_value i Over r.lives →
+    IsLent i l.session (record r { lives = ls })
+lent_take r i l ls at e = record {
+  live = record l { value = Over };
+  at = ap (λ (xs : List LiveSays). slice_get xs i) e ∙ valued r.lives i at;
+  over = refl;
+  session = refl;
+}
+  where
+    valued : (xs : List LiveSays) (i : ℕ) → slice_get xs i ≡ Some l → slice_get (with_value i Over xs) i ≡ Some (record l { value = Over })
+    valued [] i e = absurd (cc)
+    valued (x ∷ xs) zero e = let same : x ≡ l = cc in ap (λ (y : LiveSays). let z : LiveSays = record y { value = Over } in Some z) same
+    valued (x ∷ xs) (suc i) e = valued xs i e
+
+-- It is given back.
+clash : {a : Bool} → a ≡ true → a ≡ false → ⊥
+clash e f = cc
+
+pub sound_put : (r : RunSays) (i who : ℕ) (v : Value) (ls : List LiveSays) → IsLent i who r → is_held v ≡ true → IsOf r.board who v →
+    ls ≡ with_value i v r.lives → Sound who r → Sound 0 (record r { lives = ls })
+sound_put r i who v ls k held of e h =
+    with_lives r who 0 ls
+    (λ j z d o. let free : has_open j (with_value i v r.lives) ≡ false = ap (λ (xs : List LiveSays). has_open j xs) (sym e) ∙ o in
+    let other : j ≢ who = λ g. clash (open_held j i v r.lives k.live k.at (k.session ∙ sym g) held) free in
+    (other, sym (open_other j i v r.lives k.live k.at (λ g. other (sym g ∙ k.session))) ∙ free))
+    (subst (λ (xs : List LiveSays). Each (IsLive r.board) xs) (sym e) (lives_valued r.board i v r.lives
+    (λ l g. subst (λ w. IsOf r.board w v) (sym k.session ∙ ap (λ (y : LiveSays). y.session) (one_only k.at g)) of) h.lives)) h
+  where
+    one_only : {a b : LiveSays} → slice_get r.lives i ≡ Some a → slice_get r.lives i ≡ Some b → a ≡ b
+    one_only f g = cc
+
+-- The session of a name that is lent.
+pub lent_session : (r : RunSays) (i who : ℕ) (lent : ℕ) → IsLent i who r → Sound lent r → (1 ≤ who) × (who ≤ 64)
+lent_session r i who lent k h =
+    let l : IsLive r.board k.live = Each-at (IsLive r.board) r.lives i k.live k.at h.lives in
+    (subst (λ w. 1 ≤ w) k.session l.low, subst (λ w. w ≤ 64) k.session l.high)
+
+-- Live names are warned.
+pub sound_warned : (r : RunSays) (lent : ℕ) (ls : List LiveSays) → AreWarned r.lives ls → Sound lent r → Sound lent (record r { lives = ls })
+sound_warned r lent ls a h =
+    with_lives r lent lent ls (λ j z d o. (d, sym (open_warned j r.lives ls a) ∙ o)) (lives_warned r.board r.lives ls a h.lives) h
+
+warned_there : (xs ys : List LiveSays) (i : ℕ) (l : LiveSays) → AreWarned xs ys → slice_get xs i ≡ Some l →
+    (m : LiveSays) × (slice_get ys i ≡ Some m) × ((ps : List ℕ) × (m ≡ warned_live ps l))
+warned_there [] [] i l a e = absurd (cc)
+warned_there [] (y ∷ ys) i l a e = absurd a
+warned_there (x ∷ xs) [] i l a e = absurd a
+warned_there (x ∷ xs) (y ∷ ys) zero l a e = let same : x ≡ l = cc in (y, refl, (a.0.0, a.0.1 ∙ ap (warned_live a.0.0) same))
+warned_there (x ∷ xs) (y ∷ ys) (suc i) l a e = warned_there xs ys i l a.1 e
+
+pub lent_warned : (r : RunSays) (i who : ℕ) (ls : List LiveSays) → AreWarned r.lives ls → IsLent i who r → IsLent i who (record r { lives = ls })
+lent_warned r i who ls a k =
+    let w = warned_there r.lives ls i k.live a k.at in
+    record {
+      live = w.0;
+      at = w.1;
+      over = ap (λ (x : LiveSays). x.value) w.2.1 ∙ ap (warned_value w.2.0) k.over;
+      session = ap (λ (x : LiveSays). x.session) w.2.1 ∙ k.session;
+    }
+
+-- A name is released, and its value lent.
+pub sound_remove : (r : RunSays) (i : ℕ) (l : LiveSays) (ls : List LiveSays) → slice_get r.lives i ≡ Some l → ls ≡ remove r.lives i → Sound 0 r →
+    Sound (lent_by l.value) (record r { lives = ls })
+sound_remove r i l ls at e h =
+    with_lives r 0 (lent_by l.value) ls
+    (λ j z d o. (
+      z,
+      sym (open_removed j i r.lives l at (gone l.value j z d (Each-at (IsLive r.board) r.lives i l at h.lives).of))
+          ∙ ap (λ (xs : List LiveSays). has_open j xs) (sym e) ∙ o,
+    ))
+    (subst (λ (xs : List LiveSays). Each (IsLive r.board) xs) (sym e) (Each-remove (IsLive r.board) r.lives i h.lives)) h
+  where
+    other_session : (j w : ℕ) → j ≢ w → w ≡ l.session → (v : Value) → ((l.session == j) && is_held v) ≡ false
+    other_session j w d e v = both_false (l.session == j) (is_held v) (ne_eqb l.session j (λ g. d (sym g ∙ sym e)))
+
+    no_value : (b : Bool) → (b && false) ≡ false
+    no_value true = refl
+    no_value false = refl
+
+    gone : (v : Value) (j : ℕ) → j ≢ 0 → j ≢ lent_by v → IsOf r.board l.session v → ((l.session == j) && is_held v) ≡ false
+    gone (Optimist o) j z d f = other_session j o.r.who d f.1 (Optimist o)
+    gone (Waiting w) j z d f = other_session j w.r.who d f.1 (Waiting w)
+    gone (Granted g) j z d f = other_session j g.r.who d f.1 (Granted g)
+    gone Over j z d f = no_value (l.session == j)
+
+-- The last name is let go.
+pub sound_pop : (r : RunSays) (l : LiveSays) (ls : List LiveSays) → r.lives ≡ ls ++ l ∷ [] → Sound 0 r → Sound (lent_by l.value) (record r { lives = ls })
+sound_pop r l ls e h =
+    sound_remove r (length ls) l ls (ap (λ (xs : List LiveSays). slice_get xs (length ls)) e ∙ last ls)
+    (sym (ap (λ (xs : List LiveSays). remove xs (length ls)) e ∙ removed ls)) h
+  where
+    last : (xs : List LiveSays) → slice_get (xs ++ l ∷ []) (length xs) ≡ Some l
+    last [] = refl
+    last (x ∷ xs) = last xs
+
+    removed : (xs : List LiveSays) → remove (xs ++ l ∷ []) (length xs) ≡ xs
+    removed [] = refl
+    removed (x ∷ xs) = ap (λ ys. x ∷ ys) (removed xs)
+
+pub live_last : (t : TableId) (l : LiveSays) (ls : List LiveSays) → Each (IsLive t) (ls ++ l ∷ []) → IsLive t l
+live_last t l [] h = h.0
+live_last t l (x ∷ xs) h = live_last t l xs h.1
+
+-- A name is opened.
+pub sound_push : (r : RunSays) (l : LiveSays) (ls : List LiveSays) → IsLive r.board l → is_held l.value ≡ true → ls ≡ r.lives ++ l ∷ [] → Sound l.session r →
+    Sound 0 (record r { lives = ls })
+sound_push r l ls k held e h =
+    with_lives r l.session 0 ls
+    (λ j z d o. by j (has_open j r.lives) (l.session == j) refl refl (sym (open_pushed j r.lives l) ∙ ap (λ (xs : List LiveSays). has_open j xs) (sym e) ∙ o))
+    (subst (λ (xs : List LiveSays). Each (IsLive r.board) xs) (sym e) (Each-append (IsLive r.board) r.lives (l ∷ []) h.lives (k, tt))) h
+  where
+    by : (j : ℕ) (a b : Bool) → has_open j r.lives ≡ a → (l.session == j) ≡ b → (has_open j r.lives || (((l.session == j) && is_held l.value) || false)) ≡ false →
+        (j ≢ l.session) × (has_open j r.lives ≡ false)
+    by j true b f g o = absurd (cc)
+    by j false true f g o = absurd (shows (has_open j r.lives) (l.session == j) (is_held l.value) g held o)
+      where
+        shows : (a b c : Bool) → b ≡ true → c ≡ true → (a || ((b && c) || false)) ≡ false → ⊥
+        shows true b c f g o = cc
+        shows false true true f g o = cc
+        shows false true false f g o = cc
+        shows false false c f g o = cc
+    by j false false f g o = (λ same. clash (eq-eqb l.session j (sym same)) g, f)
+
+-- A pass in a new form: of the session that is lent, or of one whose request is lent from then on.
+pass_at : (ps : List PassSays) (k i : ℕ) (p q : PassSays) → slice_get (slice_set ps k q) i ≡ Some p → (i ≢ k → slice_get ps i ≡ Some p) × (i ≡ k → p ≡ q)
+pass_at [] k i p q e = absurd (cc)
+pass_at (x ∷ xs) zero zero p q e = (λ d. absurd (d refl), λ s. cc)
+pass_at (x ∷ xs) zero (suc i) p q e = (λ d. e, λ s. absurd (omega arith))
+pass_at (x ∷ xs) (suc k) zero p q e = (λ d. e, λ s. absurd (omega arith))
+pass_at (x ∷ xs) (suc k) (suc i) p q e =
+    let w = pass_at xs k i p q e in (λ d. w.0 (λ s. d (ap suc s)), λ s. w.1 (omega arith))
+
+set_length : {X : Type 0} (xs : List X) (i : ℕ) (x : X) → length (slice_set xs i x) ≡ length xs
+set_length [] zero x = refl
+set_length [] (suc i) x = refl
+set_length (y ∷ ys) zero x = refl
+set_length (y ∷ ys) (suc i) x = ap suc (set_length ys i x)
+
+pub sound_passed : (r : RunSays) (old new who : ℕ) (p q : PassSays) (h : List Entry) → 1 ≤ who → slice_get r.passes (who - 1) ≡ Some p → q.table ≡ p.table →
+    q.p.who ≡ p.p.who → (who ≢ new → open_count q.p.mine ≡ 0) → ((j : ℕ) → j ≢ 0 → j ≢ new → j ≢ who → j ≢ old) → Sound old r →
+    Sound new (record r { log = h; passes = slice_set r.passes (who - 1) q })
+sound_passed r old new who p q h low at t w idle other s = record {
+  table = s.table;
+  sizes = s.sizes;
+  given = s.given;
+  count = set_length r.passes (who - 1) q ∙ s.count;
+  passes = λ i x e. by i x e (i == (who - 1)) refl;
+  lives = s.lives;
+}
+  where
+    here : IsPass r.board old r.lives (who - 1) p
+    here = s.passes (who - 1) p at
+
+    by : (i : ℕ) (x : PassSays) → slice_get (slice_set r.passes (who - 1) q) i ≡ Some x → (b : Bool) → (i == (who - 1)) ≡ b → IsPass r.board new r.lives i x
+    by i x e true f =
+        let same : i ≡ who - 1 = eqb-true i (who - 1) f in
+        let is : x ≡ q = (pass_at r.passes (who - 1) i x q e).1 same in
+        record {
+          table = ap (λ (y : PassSays). y.table) is ∙ t ∙ here.table;
+          who = ap (λ (y : PassSays). y.p.who) is ∙ w ∙ here.who ∙ ap (λ n. n + 1) (sym same);
+          idle = λ d o. ap (λ (y : PassSays). open_count y.p.mine) is ∙ idle (λ g. d (let z : i + 1 ≡ new = omega arith in z));
+        }
+    by i x e false f =
+        let d : i ≢ who - 1 = λ same. clash (eq-eqb i (who - 1) same) f in
+        let k = s.passes i x ((pass_at r.passes (who - 1) i x q e).0 d) in
+        record {
+          table = k.table;
+          who = k.who;
+          idle = λ n o. k.idle (other (i + 1) (λ z. absurd (omega arith)) n (λ g. d (omega arith))) o;
+        }
+
+-- A value changes in its place.
+pub sound_value : (r : RunSays) (i : ℕ) (l : LiveSays) (v : Value) (ls : List LiveSays) → slice_get r.lives i ≡ Some l → is_held v ≡ is_held l.value →
+    IsOf r.board l.session v → ls ≡ with_value i v r.lives → Sound 0 r → Sound 0 (record r { lives = ls })
+sound_value r i l v ls at held of e h =
+    with_lives r 0 0 ls (λ j z d o. (z, sym (same j r.lives i at) ∙ ap (λ (xs : List LiveSays). has_open j xs) (sym e) ∙ o))
+    (subst (λ (xs : List LiveSays). Each (IsLive r.board) xs) (sym e) (lives_valued r.board i v r.lives
+    (λ k g. subst (λ w. IsOf r.board w v) (ap (λ (y : LiveSays). y.session) (one_only at g)) of) h.lives)) h
+  where
+    one_only : {a b : LiveSays} → slice_get r.lives i ≡ Some a → slice_get r.lives i ≡ Some b → a ≡ b
+    one_only f g = cc
+
+    same : (j : ℕ) (xs : List LiveSays) (k : ℕ) → slice_get xs k ≡ Some l → has_open j (with_value k v xs) ≡ has_open j xs
+    same j [] k e = absurd (cc)
+    same j (x ∷ xs) zero e =
+        let is : x ≡ l = cc in
+        ap (λ b. ((x.session == j) && b) || has_open j xs) (held ∙ ap (λ (y : LiveSays). is_held y.value) (sym is))
+    same j (x ∷ xs) (suc k) e = ap (λ b. ((x.session == j) && is_held x.value) || b) (same j xs k e)
+
+-- a session without a live name has no open request
+pub no_open : (w : ℕ) (ls : List LiveSays) → has_name w ls ≡ false → has_open w ls ≡ false
+no_open w [] e = refl
+no_open w (l ∷ ls) e = by (l.session == w) (has_name w ls) (is_held l.value) refl refl e (λ g. no_open w ls g)
+  where
+    by : (a b c : Bool) → (l.session == w) ≡ a → has_name w ls ≡ b → (a || b) ≡ false → (has_name w ls ≡ false → has_open w ls ≡ false) →
+        (((l.session == w) && is_held l.value) || has_open w ls) ≡ false
+    by true b c f g e rest = absurd (cc)
+    by false true c f g e rest = absurd (cc)
+    by false false c f g e rest = or_same _ _ (has_open w ls) (both_false (l.session == w) (is_held l.value) f) ∙ rest g
+
+-- the value of a live name, where it is known
+pub of_optimist : (t : TableId) (who : ℕ) (v : Value) (o : OptimistSays) → Optimist o ≡ v → IsOf t who v → (o.table ≡ t) × (o.r.who ≡ who)
+of_optimist t who v o e f = subst (λ (x : Value). IsOf t who x) (sym e) f
+
+pub of_waiting : (t : TableId) (who : ℕ) (v : Value) (w : WaitingSays) → Waiting w ≡ v → IsOf t who v → (w.table ≡ t) × (w.r.who ≡ who)
+of_waiting t who v w e f = subst (λ (x : Value). IsOf t who x) (sym e) f

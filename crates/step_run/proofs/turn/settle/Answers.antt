@@ -1,0 +1,58 @@
+use Rattle.std.proofs.Common.{◌≡◌, ◌≤◌, [], ◌∷◌, ◌++◌, length, map, refl, sym, ap, ◌∙◌, subst}
+use Rattle.step_run.specs.Runs.{Sound}
+use Rattle.step_run.specs.Lives.{LiveSays, seen_live}
+use Rattle.step_run.specs.Seen.{seen_run}
+use Rattle.latch_model.specs.declared.history.Fault.TheVariants.{None as no_fault}
+use Rattle.latch_model.specs.declared.history.Grant.{Grant}
+use Rattle.latch_model.specs.declared.history.Grant.TheVariants.{Waited}
+use Rattle.latch_model.specs.declared.history.Entry.TheVariants.{Ended}
+use Rattle.latch_model.specs.declared.latch.Mode.TheVariants.{Look}
+use Rattle.sequence_core.specs.Says.{end_entry}
+use Rattle.waiter.specs.Says.{EndingSays}
+use Rattle.step_run.specs.declared.live.Value.TheVariants.{Granted as GrantedValue}
+use Rattle.step_run.proofs.Lives.{seen_get}
+use Rattle.step_run.proofs.Sounding.{lent_session, sound_put}
+use Rattle.step_run.proofs.Turning.{granted_look, granted_other, inside_lent, itself, lent_name, not_look, same_live, stands_ended, stands_granted}
+use Rattle.step_run.proofs.turn.settle.Goals as goal
+
+pub end-requires-clause-sound : goal.end-requires-clause-sound
+end-requires-clause-sound c = subst (λ w. Sound w (seen_run c.args.run.now)) (sym (ap (λ (e : EndingSays). e.r.who) c.finish.ensures)) c.requires.sound
+
+pub end-requires-clause-table : goal.end-requires-clause-table
+end-requires-clause-table c = ap (λ (e : EndingSays). e.table) c.finish.ensures ∙ c.requires.table
+
+pub end-requires-clause-session : goal.end-requires-clause-session
+end-requires-clause-session c =
+    let w = lent_session (seen_run c.args.run.now) c.args.i c.args.granted.r.who c.args.granted.r.who c.requires.lent c.requires.sound in
+    subst (λ k. (1 ≤ k) × (k ≤ 64)) (sym (ap (λ (e : EndingSays). e.r.who) c.finish.ensures)) w
+
+pub put-requires : goal.put-requires
+put-requires c = (c.requires.lent.live, c.requires.lent.at, c.requires.lent.over)
+
+pub returns-in-Look-clause-stands : goal.returns-in-Look-clause-stands
+returns-in-Look-clause-stands c = λ s n h at o f g.
+    let x = c.index.result.now in
+    let r = seen_run c.args.run.now in
+    let k = c.requires.lent in
+    let live = same_live r.lives c.args.i k.live (seen_live x) k.at (seen_get c.args.run.now.lives.items c.args.i x c.index.ensures (inside_lent c.args.run.now.lives.items c.args.i k.live k.at)) in
+    let mode : n.mode ≡ Look = sym (ap (λ (l : LiveSays). l.mode) (sym live) ∙ (lent_name c.args.i c.args.granted.r.who s r n h at k).mode) ∙ c.in-Look.is in
+    granted_look s n (seen_run c.end.new.run) n.mode mode
+    (stands_ended c.args.i s r (seen_run c.end.new.run) n n c.args.granted.r (Waited (length s.history)) no_fault h at k (itself n) f
+    (c.end.ensures.log ∙ ap (λ (e : EndingSays). c.args.run.now.desk.log ++ end_entry e ∷ []) c.finish.ensures
+    ∙ ap (λ (q : Grant). c.args.run.now.desk.log ++ Ended c.args.granted.r.id c.args.granted.r.who q c.args.granted.r.cause no_fault ∷ []) g)
+    (ap (λ ys. map seen_live ys) c.end.ensures.lives))
+
+pub returns-in-Acquire-clause-sound : goal.returns-in-Acquire-clause-sound
+returns-in-Acquire-clause-sound c =
+    sound_put (seen_run c.args.run.now) c.args.i c.args.granted.r.who (GrantedValue c.args.granted) (map seen_live c.put.new.lives.items) c.requires.lent refl
+    (c.requires.table, refl) c.put.ensures c.requires.sound
+
+pub returns-in-Acquire-clause-stands : goal.returns-in-Acquire-clause-stands
+returns-in-Acquire-clause-stands c = λ s n h at o f g.
+    let x = c.index.result.now in
+    let r = seen_run c.args.run.now in
+    let k = c.requires.lent in
+    let live = same_live r.lives c.args.i k.live (seen_live x) k.at (seen_get c.args.run.now.lives.items c.args.i x c.index.ensures (inside_lent c.args.run.now.lives.items c.args.i k.live k.at)) in
+    let mode : x.mode ≡ n.mode = ap (λ (l : LiveSays). l.mode) (sym live) ∙ (lent_name c.args.i c.args.granted.r.who s r n h at k).mode in
+    granted_other s n _ n.mode (λ e. not_look x.mode c.in-Acquire.is (mode ∙ e))
+    (stands_granted c.args.i c.args.granted.r.who s r _ n c.args.granted h at o f g refl c.put.ensures)
