@@ -1,0 +1,67 @@
+-- What the calls of a manager do to a pass. A desk behind a mutex is known by its making alone: each call tells what the history was at its
+-- moment, and no call what it is now.
+use Rattle.std.specs.Prelude.{◌≡◌, ℕ, ◌≤◌, ◌<◌, List, [], ◌∷◌, ◌++◌, length, Some}
+use Rattle.std.specs.List.{All, Contains}
+use Rattle.atomic_table.specs.Seated.{TableId}
+use Rattle.latch_model.specs.Declaration.{Declaration}
+use Rattle.latch_model.specs.Histories.{begin_with, entry_of}
+use Rattle.latch_model.specs.Legal.{IsLegal}
+use Rattle.latch_model.specs.declared.history.Entry.{Entry}
+use Rattle.latch_model.specs.declared.history.Fault.TheVariants.{None as no_fault}
+use Rattle.latch_model.specs.declared.history.Sizes.{Sizes}
+use Rattle.latch_model.specs.declared.latch.Mode.{Mode}
+pub use Rattle.sequence_core.specs.Says.{end_entry, next_begin}
+use Rattle.signal_board.specs.Rule.{IsPrefix, begun_as, open_count}
+use Rattle.signal_board.specs.Says.{LaneSays, PassSays, shown_all, shown_to}
+use Rattle.signal_board.specs.Steps.{new_request, wrote}
+use Rattle.waiter.specs.Says.{EndingSays, GrantedSays, WaitingSays, Unpolled}
+
+-- A making: the table of its shared words, and its sizes.
+pub record Made : Type 0 where
+  pub table : TableId
+  pub sizes : Sizes
+
+abbrev pub nothing_made : Made
+nothing_made = record {
+  table = record { words = 0; slots = 0; views_name = 0; atom = 0; block = 0; offset = 0; slot_names = [] };
+  sizes = record { latches = 0; lanes = 0; rows = 0 };
+}
+
+-- One entry of the pass was added to the history as it stood, which was no shorter than what the pass had seen and went on from what it had
+-- been shown. The pass has then been shown all of it.
+pub record Adds (sizes : Sizes) (old : PassSays) (log : List Entry) (e : Entry) (new : PassSays) : Type 0 where
+  pub later : old.p.seen ≤ length log
+  pub goes_on : IsPrefix old.p.shown log
+  pub legal : IsLegal (log ++ e ∷ []) sizes
+  pub pass : new ≡ record old { p = shown_all (log ++ e ∷ []) (wrote old.p (length log) e) }
+
+-- A request was begun: it has been shown the history with its begin, and the pass has one open request now.
+pub record Began (made : Made) (old : PassSays) (mode : Mode) (request : Declaration) (opened : LaneSays) (new : PassSays) : Type 0 where
+  pub log : List Entry
+  pub adds : Adds made.sizes old log (entry_of (next_begin log old.p.who mode request)) new
+  pub opened_is : opened ≡ record {
+    table = made.table;
+    r = shown_to (log ++ entry_of (next_begin log old.p.who mode request) ∷ []) (new_request log (entry_of (next_begin log old.p.who mode request)));
+  }
+  pub busy : open_count new.p.mine ≡ 1
+
+-- A request was ended: the history has its begin, and the pass has no open request now.
+pub record Finished (made : Made) (old : PassSays) (ending : EndingSays) (new : PassSays) : Type 0 where
+  pub log : List Entry
+  pub adds : Adds made.sizes old log (end_entry ending) new
+  pub begun : begin_with log ending.r.id ≡ Some (begun_as ending.r)
+  pub idle : open_count new.p.mine ≡ 0
+
+-- a request that begins to wait
+abbrev pub unpolled : LaneSays → WaitingSays
+unpolled opened = record { table = opened.table; r = opened.r; turns = 0; last = Unpolled }
+
+-- A granted request that ends as it was granted.
+abbrev pub done_with : GrantedSays → EndingSays
+done_with granted = record { table = granted.table; r = granted.r; grant = granted.grant; fault = no_fault }
+
+-- All passes of a making, each without an open request.
+pub record HasAllPasses (made : Made) (passes : List PassSays) : Type 0 where
+  pub tables : All (λ p. p.table ≡ made.table) passes
+  pub idle : All (λ p. open_count p.p.mine ≡ 0) passes
+  pub each : (who : ℕ) → 0 < who → who ≤ made.sizes.lanes → (p : PassSays) × Contains passes p × (p.p.who ≡ who)

@@ -1,0 +1,98 @@
+// Waiting by polls, outside any lock.
+ghost use Rattle.std.specs.Prelude.{◌≡◌, ◌≢◌, ◌≤◌, ◌<◌, ℕ, Option, Some, None, IfOk, IfErr};
+ghost use Rattle.latch_model.specs.Histories.{HeldLatch};
+ghost use Rattle.latch_model.specs.declared.history.Fault.TheVariants.{Cancelled as by_cancel, Poisoned as by_poison};
+ghost use Rattle.latch_model.specs.declared.history.Grant.TheVariants.{Never};
+ghost use Rattle.waiter.specs.Says.{Blocked, Poisoned, ShowsLast};
+ghost use Rattle.waiter.specs.declared.mark.Mark.{Mark as Marks};
+ghost use Rattle.latch_manager.specs.Acquiring.{WaitFailsAs};
+ghost use Rattle.latch_manager.specs.Waiting.{WaitGrants};
+
+use crate::patience::Patience;
+use crate::wakes::Wakes;
+use latch_model::history::Fault;
+use std::sync::Wait;
+use waiter::{Core, Ending, Granted, Mark, Polled, Waiting};
+
+/// Why a wait failed: it met this latch of a poisoned request, or its patience refused after so many polls that were blocked.
+#[derive(Debug, Drop)]
+pub enum WaitFault {
+    Poisoned(Mark),
+    Cancelled { turns: u64 },
+}
+
+// A wait that failed: the request, which is to end, and why.
+pub(crate) struct Failed {
+    pub(crate) ending: Ending,
+    pub(crate) fault: WaitFault,
+}
+
+/// Polls until the request is granted, meets a poisoned one under the policy `Error`, or the patience refuses.
+pub(crate) fn until_granted<R: Wait, P: Patience>(
+    rt: &R,
+    core: &Core,
+    wakes: &Wakes,
+    mut waiting: Waiting,
+    patience: &mut P,
+) -> Result<Granted, Failed>
+    requires table { waiting.table ≡ core.now.board.table }
+    ensures granted { IfOk result (λ g. WaitGrants waiting g) }
+    ensures failed { IfErr result (λ f. WaitFailsAs waiting f.ending (P.refusals patience.old) (P.refusals patience.new) (P.limit patience.old) f.fault) }
+    ensures later { P.refusals patience.old ≤ P.refusals patience.new }
+    ensures limit { P.limit patience.new ≡ P.limit patience.old }
+{
+    for _ in rt.forever() {
+        let seen = wakes.now();
+        match waiting.poll(core) {
+            Polled::Ready => return Ok(waiting.grant(core)),
+            Polled::Poisoned { by, place: _ } => return Err(fail(core, waiting, by)),
+            Polled::Blocked { by: _, place: _ } => {
+                if !patience.more(waiting.turns()) {
+                    return Err(cancel(core, waiting));
+                }
+                wakes.sleep(rt, seen);
+            }
+        }
+    }
+    unreachable!()
+}
+
+// The request meets a latch of a poisoned one, and is to end so.
+fn fail(core: &Core, waiting: Waiting, by: u64) -> Failed
+    requires table { waiting.table ≡ core.now.board.table }
+    requires poisoned { (x : HeldLatch) × (waiting.last ≡ Poisoned x) × (x.by ≡ by) }
+    ensures ending { result.ending ≡ record { table = waiting.table; r = waiting.r; grant = Never; fault = by_poison by } }
+    ensures fault { (mark : Marks) × (result.fault ≡ WaitFault.Poisoned mark) × ShowsLast (Some mark) waiting.last }
+{
+    let (ending, mark) = waiting.abandon(core, Fault::Poisoned(by));
+    Failed {
+        ending,
+        fault: WaitFault::Poisoned(there(mark)),
+    }
+}
+
+// The mark of a request that was blocked.
+fn there(mark: Option<Mark>) -> Mark
+    requires { mark ≢ None }
+    ensures { mark ≡ Some result }
+{
+    match mark {
+        Some(mark) => mark,
+        None => unreachable!(),
+    }
+}
+
+// The patience refused, and the request is to end so.
+fn cancel(core: &Core, waiting: Waiting) -> Failed
+    requires table { waiting.table ≡ core.now.board.table }
+    requires blocked { (x : HeldLatch) × (waiting.last ≡ Blocked x) }
+    ensures ending { result.ending ≡ record { table = waiting.table; r = waiting.r; grant = Never; fault = by_cancel waiting.turns } }
+    ensures fault { result.fault ≡ WaitFault.Cancelled waiting.turns }
+{
+    let turns = waiting.turns();
+    let (ending, _mark) = waiting.abandon(core, Fault::Cancelled(turns));
+    Failed {
+        ending,
+        fault: WaitFault::Cancelled { turns },
+    }
+}
