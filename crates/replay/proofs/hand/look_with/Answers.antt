@@ -1,0 +1,28 @@
+use Rattle.std.proofs.Common.{◌≡◌, ℕ, sym, subst}
+use Rattle.latch_model.specs.declared.latch.Mode.TheVariants.{Look}
+use Rattle.latch_manager.specs.Acquiring.{AcquireFails}
+use Rattle.latch_manager.specs.declared.manager.AcquireFault.{AcquireFault}
+use Rattle.replay.proofs.Acquired.{look-cancelled, look-poisoned, look-stands}
+use Rattle.replay.proofs.hand.look_with.Goals as goal
+
+pub returns-in-Ok-clause-stands : goal.returns-in-Ok-clause-stands
+returns-in-Ok-clause-stands g c bs line policy turns latches of is s =
+    look-stands g.N.Making.made c.args.pass.now c.wait_for.new.pass bs line policy turns latches c.args.request s is c.in-Ok._id c.in-Ok.ensures.looked
+
+pub returns-in-Err-Poisoned-clause-stands : goal.returns-in-Err-Poisoned-clause-stands
+returns-in-Err-Poisoned-clause-stands g c bs line policy turns latches of is s =
+    look-poisoned g.N.Making.made c.args.pass.now c.wait_for.new.pass bs line policy turns latches c.args.request s is (g.P.Patience.refusals c.args.patience.now)
+    (g.P.Patience.refusals c.wait_for.new.patience) (g.P.Patience.limit c.args.patience.now) c.in-Err-Poisoned.field-0-0
+    (subst
+    (λ (x : AcquireFault). AcquireFails g.N.Making.made c.args.pass.now c.args.request Look (g.P.Patience.refusals c.args.patience.now)
+    (g.P.Patience.refusals c.wait_for.new.patience) (g.P.Patience.limit c.args.patience.now) x c.wait_for.new.pass)
+    c.in-Err-Poisoned.field-0-is c.in-Err-Poisoned.ensures.failed)
+
+pub returns-clause-stands : goal.returns-clause-stands
+returns-clause-stands g c bs line policy turns latches of is s =
+    look-cancelled g.N.Making.made c.args.pass.now c.wait_for.new.pass bs line policy turns latches c.args.request s is (g.P.Patience.refusals c.args.patience.now)
+    (g.P.Patience.refusals c.wait_for.new.patience) (g.P.Patience.limit c.args.patience.now) c.in-Err-Cancelled.field-0-0
+    of (subst
+    (λ (x : AcquireFault). AcquireFails g.N.Making.made c.args.pass.now c.args.request Look (g.P.Patience.refusals c.args.patience.now)
+    (g.P.Patience.refusals c.wait_for.new.patience) (g.P.Patience.limit c.args.patience.now) x c.wait_for.new.pass)
+    c.in-Err-Cancelled.field-0-is c.in-Err-Cancelled.ensures.failed)

@@ -1,0 +1,35 @@
+use Rattle.std.proofs.Common.{◌≡◌, ℕ, ◌+◌, false, true, Option, refl, sym, ◌∙◌, subst}
+use Rattle.std.proofs.lemmas.Option.{slice_get_read}
+use Rattle.replay.specs.Running.{IsAt, Ran, SomeTurns}
+use Rattle.replay.proofs.Commands.{at-other, at-own}
+use Rattle.replay.proofs.Owning.{fit-at, own-is, some-turns}
+use Rattle.replay.proofs.session.pass_or_run.Goals as goal
+
+pub returns-then-not-is_own-clause-at : goal.returns-then-not-is_own-clause-at
+returns-then-not-is_own-clause-at g c =
+    at-other c.args.commands.now c.requires.script g.N.Making.made.table c.args.who c.args.i c.args.pass.now c.args.live c.args.hand
+    c.index-commands-i.result (slice_get_read c.args.commands.now _ c.args.i c.index-commands-i.result refl c.requires.inside c.index-commands-i.is)
+    (sym (own-is c.args.commands.now c.requires.script c.args.i c.args.who c.index-commands-i.result (slice_get_read c.args.commands.now _ c.args.i c.index-commands-i.result refl c.requires.inside c.index-commands-i.is) g.N.Making.made.table
+    c.args.pass.now c.args.live c.args.hand c.requires.at)
+    ∙ (sym c.is_own.ensures ∙ c.if-not-is_own.true))
+    c.requires.at
+
+pub run_command-ran-requires-clause-turns : goal.run_command-ran-requires-clause-turns
+run_command-ran-requires-clause-turns g c =
+    subst SomeTurns (sym c.turns_of-turns.ensures) (some-turns c.args.commands.now c.requires.script c.args.live)
+
+pub returns-in-Ok-clause-at : goal.returns-in-Ok-clause-at
+returns-in-Ok-clause-at g c =
+    subst
+    (λ (l : Option ℕ). IsAt c.args.commands.now g.N.Making.made.table c.args.who (c.args.i + 1) c.run_command-ran.new.pass l c.in-Ok.next)
+    (sym c.live_behind.ensures)
+    (at-own c.args.commands.now c.requires.script g.N.Making.made.table c.args.who c.args.i c.args.pass.now c.run_command-ran.new.pass c.args.hand
+    c.in-Ok.next c.in-Ok.ensures.keeps c.index-commands-i.result c.args.live (slice_get_read c.args.commands.now _ c.args.i c.index-commands-i.result refl c.requires.inside c.index-commands-i.is)
+    (sym (own-is c.args.commands.now c.requires.script c.args.i c.args.who c.index-commands-i.result (slice_get_read c.args.commands.now _ c.args.i c.index-commands-i.result refl c.requires.inside c.index-commands-i.is) g.N.Making.made.table
+    c.args.pass.now c.args.live c.args.hand c.requires.at)
+    ∙ (sym c.is_own.ensures ∙ c.if-not-is_own.false))
+    (subst
+    (λ (t : Option ℕ). Ran g.N.Making.made.table (c.args.i + 2) t c.index-commands-i.result c.args.pass.now c.args.hand
+    c.run_command-ran.new.pass c.in-Ok.next)
+    c.turns_of-turns.ensures c.in-Ok.ensures.ran)
+    c.in-Ok.ensures.tied c.requires.at)

@@ -1,0 +1,90 @@
+// A worker for each session.
+ghost use Rattle.std.specs.Prelude.{◌≡◌, ◌<◌, ◌^◌, All, length, map, IfOk, OnOk};
+ghost use Rattle.std.specs.Thread.{IsSync};
+ghost use Rattle.script.specs.Scripts.{IsScript};
+ghost use Rattle.replay.specs.Running.{FollowsIn, Fresh, Rested, program_sizes, whos};
+
+use crate::session::run_session;
+use latch_manager::gate::Gate;
+use latch_manager::manager::{Making, Manager};
+use script::command::Command;
+use signal_board::board::Pass;
+use span_key::Memory;
+use std::alloc::Global;
+use std::sync::Wait;
+use std::thread::{Threads, join_mut};
+
+/// Runs the session of each of these passes in a worker of its own. The first half of them runs beside the second, and so on by halves; where a worker can't
+/// be started, the caller runs its sessions itself.
+pub(crate) fn crew<N: Making + Send + Sync, G: Gate, R: Threads + Wait + Sync>(
+    rt: &R,
+    alloc: Global,
+    commands: &[Command],
+    manager: &Manager<N>,
+    passes: &mut [Pass],
+    gate: &G,
+) -> Result<(), Memory>
+    requires script { IsScript commands.now }
+    requires few { length commands.now < 2 ^ 31 }
+    requires sizes { N.made.sizes ≡ program_sizes }
+    requires fresh { All (Fresh N.made.table) passes.old }
+    ensures whos { whos passes.new ≡ whos passes.old }
+    ensures rested { All (Rested N.made.table) passes.new }
+    ensures follows { OnOk result (All (FollowsIn commands.now) passes.new) }
+{
+    if passes.len() < 2 {
+        return alone(rt, alloc, commands, manager, passes, gate);
+    }
+    let (front, back) = passes.split_at_mut(passes.len() / 2);
+    let (first, second) = join_mut(
+        rt,
+        &mut ||
+            requires { IsSync R.row × IsSync N.row × IsSync G.row × IsScript commands.now × (length commands.now < 2 ^ 31) × (N.made.sizes ≡ program_sizes)
+                × All (Fresh N.made.table) front.now }
+            ensures whos { whos front.exit.now ≡ whos front.entry.now }
+            ensures rested { All (Rested N.made.table) front.exit.now }
+            ensures follows { OnOk result (All (FollowsIn commands.entry.now) front.exit.now) }
+        { crew(rt, alloc, commands, manager, front, gate) },
+        &mut ||
+            requires { IsSync R.row × IsSync N.row × IsSync G.row × IsScript commands.now × (length commands.now < 2 ^ 31) × (N.made.sizes ≡ program_sizes)
+                × All (Fresh N.made.table) back.now }
+            ensures whos { whos back.exit.now ≡ whos back.entry.now }
+            ensures rested { All (Rested N.made.table) back.exit.now }
+            ensures follows { OnOk result (All (FollowsIn commands.entry.now) back.exit.now) }
+        { crew(rt, alloc, commands, manager, back, gate) },
+    );
+    both(first, second)
+}
+
+// The sessions of at most one pass.
+fn alone<N: Making, G: Gate, R: Wait>(
+    rt: &R,
+    alloc: Global,
+    commands: &[Command],
+    manager: &Manager<N>,
+    passes: &mut [Pass],
+    gate: &G,
+) -> Result<(), Memory>
+    requires script { IsScript commands.now }
+    requires few { length commands.now < 2 ^ 31 }
+    requires sizes { N.made.sizes ≡ program_sizes }
+    requires fresh { All (Fresh N.made.table) passes.old }
+    requires one { length passes.old < 2 }
+    ensures whos { whos passes.new ≡ whos passes.old }
+    ensures rested { All (Rested N.made.table) passes.new }
+    ensures follows { OnOk result (All (FollowsIn commands.now) passes.new) }
+{
+    if passes.len() == 0 {
+        return Ok(());
+    }
+    run_session(rt, alloc, commands, manager, &mut passes[0], gate)
+}
+
+// Both were done, or memory was refused to one of them.
+fn both(first: Result<(), Memory>, second: Result<(), Memory>) -> Result<(), Memory>
+    ensures first { OnOk result (first ≡ Ok tt) }
+    ensures second { OnOk result (second ≡ Ok tt) }
+{
+    first?;
+    second
+}

@@ -1,0 +1,139 @@
+// A script run by sessions on threads of their own, on one desk.
+ghost use Rattle.std.specs.Prelude.{◌≡◌, ℕ, false, All, List, length, IfOk, OnOk};
+ghost use Rattle.latch_model.specs.Histories.{is_open};
+ghost use Rattle.latch_model.specs.Legal.{IsLegal};
+ghost use Rattle.script.specs.Follows.{FollowsScript};
+ghost use Rattle.script.specs.Scripts.{IsScript};
+ghost use Rattle.script.specs.declared.command.Command.{Command};
+ghost use Rattle.sequence_core.specs.Says.{AreFresh, RefusesNew};
+ghost use Rattle.replay.specs.Running.{FollowsIn, Fresh, Rested, lane_numbers, program_sizes, whos};
+
+use crate::crew::crew;
+use latch_manager::gate::Gate;
+use latch_manager::manager::{Making, Manager};
+use latch_model::history::{History, Sizes};
+use script::command::Script;
+use sequence_core::desk::Desk;
+use sequence_core::fault::NewFault;
+use signal_board::board::Pass;
+use span_key::Memory;
+use std::alloc::Global;
+use std::marker::Brand;
+use std::sync::Wait;
+use std::thread::Threads;
+use step_run::RunFault;
+use waiter::Core;
+
+/// The sizes at which the program runs a script: 1,024 latches, 64 lanes and 98,304 rows.
+pub const PROGRAM_SIZES: Sizes = Sizes {
+    latches: 1024,
+    lanes: 64,
+    rows: 98304,
+};
+
+/// Runs each session's commands in their order, in a worker of its own, and waits for all of them; where a worker can't be started, the caller runs that
+/// session itself. Session w uses the pass with number w, and a request's tag is the number of the line that opened it. A session to which memory is refused
+/// ends what it has open and stops, while the others go on. In the end no pass has an open request.
+pub fn sessions<N: Making + Send + Sync, G: Gate, R: Threads + Wait + Sync>(
+    rt: &R,
+    alloc: Global,
+    script: &Script,
+    manager: &Manager<N>,
+    passes: &mut [Pass],
+    gate: &G,
+) -> Result<(), RunFault>
+    requires sizes { N.made.sizes ≡ program_sizes }
+    requires passes { AreFresh N.made.table 64 passes.old }
+    ensures whos { whos passes.new ≡ whos passes.old }
+    ensures rested { All (Rested N.made.table) passes.new }
+    ensures follows { OnOk result (All (FollowsIn script.now) passes.new) }
+{
+    Ok(crew(rt, alloc, script.commands(), manager, passes, gate)?)
+}
+
+// The manager of a making, and what becomes of its passes.
+fn within<N: Making + Send + Sync, G: Gate, R: Threads + Wait + Sync>(
+    rt: &R,
+    alloc: Global,
+    script: &Script,
+    core: Core,
+    desk: Desk,
+    passes: &mut Vec<Pass>,
+    gate: &G,
+) -> (Core, Desk, Result<(), RunFault>)
+    requires core { (core.board.table ≡ N.made.table) × (core.board.sizes ≡ N.made.sizes) }
+    requires desk { (desk.table ≡ N.made.table) × (desk.sizes ≡ N.made.sizes) }
+    requires sizes { N.made.sizes ≡ program_sizes }
+    requires passes { AreFresh N.made.table 64 passes.old.items }
+    ensures core { (result.0.board.table ≡ N.made.table) × (result.0.board.sizes ≡ N.made.sizes) }
+    ensures desk { (result.1.table ≡ N.made.table) × (result.1.sizes ≡ N.made.sizes) }
+    ensures whos { whos passes.new.items ≡ whos passes.old.items }
+    ensures rested { All (Rested N.made.table) passes.new.items }
+    ensures follows { OnOk result.2 (All (FollowsIn script.now) passes.new.items) }
+{
+    let manager = Manager::<N>::new(core, desk);
+    let ran = sessions(rt, alloc, script, &manager, passes.as_mut_slice(), gate);
+    let (core, desk) = manager.into_parts();
+    (core, desk, ran)
+}
+
+/// Runs a script with a worker for each session. The history that comes out is legal, no request of it is open, and it follows the script: each session's
+/// entries are those of its commands, in their order, and no entry is of another.
+pub fn replay<G: Gate, R: Threads + Wait + Sync>(
+    rt: &R,
+    alloc: Global,
+    script: &Script,
+    gate: &G,
+) -> Result<History, RunFault>
+    ensures sizes { IfOk result (λ h. h.sizes ≡ program_sizes) }
+    ensures legal { IfOk result (λ h. IsLegal h.entries h.sizes) }
+    ensures closed { IfOk result (λ h. (id : ℕ) → is_open h.entries id ≡ false) }
+    ensures follows { IfOk result (λ h. FollowsScript h.entries script.now) }
+{
+    match Desk::new(alloc, PROGRAM_SIZES) {
+        Err(fault) => refused(fault),
+        Ok((core, desk, mut passes)) => {
+            let _keeps_the_rules = script.commands();
+            let (core, desk, ran) = within::<Brand, G, R>(
+                rt,
+                alloc,
+                script,
+                core,
+                desk,
+                &mut passes,
+                gate,
+            );
+            let history = finish(core, desk, passes);
+            match ran {
+                Ok(()) => Ok(history),
+                Err(fault) => Err(fault),
+            }
+        }
+    }
+}
+
+// A desk of the program's sizes isn't made for want of memory alone.
+fn refused(fault: NewFault) -> Result<History, RunFault>
+    requires { RefusesNew program_sizes fault }
+    ensures { IfOk result (λ _. ⊥) }
+{
+    match fault {
+        NewFault::BadSizes { which: _ } => unreachable!(),
+        NewFault::Memory => Err(RunFault::Memory),
+    }
+}
+
+// Closes the desk with all its passes.
+fn finish(core: Core, desk: Desk, passes: Vec<Pass>) -> History
+    requires table { desk.table ≡ core.board.table }
+    requires sizes { desk.sizes ≡ program_sizes }
+    requires whos { whos passes.items ≡ lane_numbers 64 }
+    requires rested { All (Rested desk.table) passes.items }
+    ensures sizes { result.sizes ≡ program_sizes }
+    ensures legal { IsLegal result.entries result.sizes }
+    ensures closed { (id : ℕ) → is_open result.entries id ≡ false }
+    ensures follows { (cs : List Command) → IsScript cs → All (FollowsIn cs) passes.items → FollowsScript result.entries cs }
+{
+    desk.known();
+    desk.close(core, passes)
+}
