@@ -1,15 +1,19 @@
 -- How runs end: what an input that is too long, one that was answered and one that spells a script come to.
-use Rattle.std.proofs.Common.{◌≡◌, ◌≢◌, ℕ, ◌<◌, ◌⊎◌, inl, inr, Bool, cond, List, length, Option, Some, None, IfSome, Result, Ok, Err}
+use Rattle.std.proofs.Common.{◌≡◌, ◌≢◌, ℕ, ◌<◌, ◌⊎◌, inl, inr, Bool, codes, cond, IsTrue, List, [], length, Option, Some, None, IfSome, Result, Ok, Err}
 use Rattle.std.proofs.Common.{refl, sym, ap, subst, ◌∙◌}
 use Rattle.std.proofs.lemmas.Bool.{lt-ltb}
 use Rattle.std.specs.Io.KnownBytes.{Appends}
-use Rattle.port_io.specs.Devices.{CountsFault, TakesMoreThan}
+use Rattle.port_io.specs.Devices.{AppendsPart, CountsFault, TakesMoreThan}
+use Rattle.script.specs.Generated.{generated}
 use Rattle.script.specs.Reading.{all_at, lines, script_at}
-use Rattle.script.specs.Scripts.{Spells}
+use Rattle.script.specs.Scripts.{IsScript, Spells}
 use Rattle.script.specs.declared.command.Command.{Command}
 use Rattle.script.proofs.Laws.Scripts.{script_again, script_takes}
 use Rattle.step_run.specs.Steps.{step_output}
-use Rattle.latch_tool.specs.Outcomes.{AnswersStep, Ends, HasScript, IsRead, Reading, WritesAll, WritesSteps, decided, fault_line, step_answer}
+use Rattle.latch_tool.specs.Outcomes.{AnswersStep, Ends, HasScript, IsRead, Reading, WritesAll, WritesMade, WritesPart, WritesSteps, decided}
+use Rattle.latch_tool.specs.Outcomes.{fault_line, made_line}
+use Rattle.latch_tool.specs.Outcomes.{step_answer}
+use Rattle.latch_tool.specs.Words.{reads}
 use Rattle.script.specs.declared.limits.TheConstants.{TEXT_LIMIT}
 use Rattle.latch_tool.specs.declared.form.Form.TheVariants as form
 use Rattle.latch_tool.specs.declared.status.Status.{Status}
@@ -108,3 +112,40 @@ ends_done source status text has sound ends =
 pub step_done : (source : Reading) (status : Status) (before now : Option (List ℕ)) → HasScript source → ¬ CountsFault source.faults source.faults_after
     → WritesAll form.Step source status before now → (status ≡ Done) ⊎ (status ≡ Memory)
 step_done source status before now has sound w = ends_done source status w.0 has sound w.1
+
+-- ---- `make` and `help`, which read nothing
+
+make_reads_nothing : (requests : ℕ) → IsTrue (reads (form.Make requests)) → ⊥
+make_reads_nothing requests r = cc
+
+-- the last line was written
+pub made_all : (source : Reading) (requests : ℕ) (status : Status) (text : List ℕ) (before now : Option (List ℕ)) → text ≡ made_line requests
+    → status ≡ Done → Appends before now text → WritesAll (form.Make requests) source status before now
+made_all source requests status text before now is done written =
+    let ends : Ends (form.Make requests) source Done text = ([], (λ r. absurd (make_reads_nothing requests r)), ap (λ (t : List ℕ). (Done, t)) (sym is)) in
+    subst (λ (s : Status). WritesAll (form.Make requests) source s before now) (sym done) (text, ends, written)
+
+-- a front of it was written
+pub made_part : (source : Reading) (requests : ℕ) (text : List ℕ) (before now : Option (List ℕ)) → text ≡ made_line requests
+    → AppendsPart before now text → WritesPart (form.Make requests) source before now
+made_part source requests text before now is written =
+    (Done, text, ([], (λ r. absurd (make_reads_nothing requests r)), ap (λ (t : List ℕ). (Done, t)) (sym is)), written)
+
+pub done_is_no_write_fault : (status : Status) → status ≡ Done → status ≢ WriteFault
+done_is_no_write_fault status done e = let d : Done ≡ WriteFault = sym done ∙ e in absurd cc
+
+pub memory_is_not_done : (status : Status) → status ≡ Memory → status ≡ Done → ⊥
+memory_is_not_done status memory done = let d : Memory ≡ Done = sym memory ∙ done in cc
+
+-- the last line was written, and the script is one
+pub made_line_written : (requests : ℕ) (text : List ℕ) (before now : Option (List ℕ)) → IsScript (generated requests) → text ≡ made_line requests
+    → Appends before now text → WritesMade requests before now
+made_line_written requests text before now script is written = (script, subst (Appends before now) is written)
+
+-- a front of the line that says that memory was refused
+pub memory_part : (source : Reading) (requests : ℕ) (before now : Option (List ℕ)) → AppendsPart before now (codes "out of memory\n")
+    → WritesPart (form.Make requests) source before now
+memory_part source requests before now written = (Memory, codes "out of memory\n", (refl, refl), written)
+
+pub same_number : (m n : ℕ) → form.Make m ≡ form.Make n → m ≡ n
+same_number m n e = cc

@@ -2,9 +2,11 @@
 use Rattle.std.specs.Prelude.{◌≡◌, ℕ, ◌++◌, ◌⊎◌, IsTrue, List, [], ◌∷◌, Option, Some, IfSome, Result, Ok, Err, codes, decimal}
 use Rattle.std.specs.Io.KnownBytes.{Appends}
 use Rattle.port_io.specs.Devices.{AppendsPart, CountsFault, TakesMoreThan}
+use Rattle.script.specs.Generated.{generated}
 use Rattle.script.specs.Reading.{script_at}
-use Rattle.script.specs.Scripts.{Spells}
+use Rattle.script.specs.Scripts.{IsScript, Spells}
 use Rattle.script.specs.declared.command.Command.{Command}
+use Rattle.step_run.specs.Lines.{last_line}
 use Rattle.step_run.specs.Steps.{step_output}
 use Rattle.script.specs.declared.limits.TheConstants.{TEXT_LIMIT}
 use Rattle.latch_tool.specs.Words.{reads, takes_memory}
@@ -26,9 +28,15 @@ abbrev pub step_answer : Result (List Command) (ℕ × ℕ) → Status × List �
 step_answer (Ok commands) = (Done, step_output commands)
 step_answer (Err (line, cause)) = (Script line cause, fault_line line cause)
 
+-- What `make` writes: the last line of the step output of the generated script of so many requests.
+abbrev pub made_line : ℕ → List ℕ
+made_line requests = last_line (step_output (generated requests))
+
 -- What a form and an input decide, as long as no device fails and memory suffices: the status, and the text that is written.
 abbrev pub decided : Form → List ℕ → Status × List ℕ
 decided form.Step input = step_answer (script_at input)
+decided (form.Make requests) input = (Done, made_line requests)
+decided form.Help input = (Done, usage_line)
 decided form.Usage input = (Usage, usage_line)
 
 -- What a source shows before a call and after it: the bytes that are left, where it tells them, and its count of faults.
@@ -72,6 +80,10 @@ abbrev pub WritesSteps : Reading → Option (List ℕ) → Option (List ℕ) →
 WritesSteps source before now =
     (input : List ℕ) × (commands : List Command) × IsRead source.left source.left_after input × Spells input commands
     × Appends before now (step_output commands)
+
+-- The last line of the step output of a generated script was written, and that is a script.
+abbrev pub WritesMade : ℕ → Option (List ℕ) → Option (List ℕ) → Type 0
+WritesMade requests before now = IsScript (generated requests) × Appends before now (made_line requests)
 
 -- The source tells its bytes, and they spell a script.
 abbrev pub HasScript : Reading → Type 0

@@ -1,9 +1,13 @@
 // The top call: words and an input in, a status and what was written out.
-ghost use Rattle.std.specs.Prelude.{◌≡◌, ◌≢◌, ◌⊎◌, IsTrue, IfOk, IfErr, IsErrOf, false, map};
+ghost use Rattle.std.specs.Prelude.{◌≡◌, ◌≢◌, ◌≤◌, ◌⊎◌, IsTrue, IfOk, IfErr, IsErrOf, false, map};
 ghost use Rattle.std.specs.String.{string_bytes};
 ghost use Rattle.std.specs.Io.KnownBytes.{Appends};
 ghost use Rattle.port_io.specs.Devices.{AppendsPart, CountsFault};
-ghost use Rattle.latch_tool.specs.Outcomes.{AnswersStep, HasScript, WritesAll, WritesPart, WritesSteps, decided, fault_line, reading};
+ghost use Rattle.script.specs.Generated.{generated};
+ghost use Rattle.step_run.specs.Lines.{EndsLine};
+ghost use Rattle.step_run.specs.Steps.{step_output};
+ghost use Rattle.latch_tool.specs.Outcomes.{AnswersStep, HasScript, Reading, WritesAll, WritesMade, WritesPart, WritesSteps, decided, fault_line};
+ghost use Rattle.latch_tool.specs.Outcomes.{reading, usage_line};
 ghost use Rattle.latch_tool.specs.Words.{form_of, reads};
 ghost use Rattle.latch_tool.specs.declared.run.Stop.TheVariants.{Memory as memory};
 
@@ -12,20 +16,24 @@ use crate::status::Status;
 use itoa::Buffer;
 use port_io::{Failed, ReadFault, Sink, Source, read_all, write_piece};
 use script::fault::ReadScript;
-use script::{TEXT_LIMIT, read_script};
+use script::spelling::generated_is_a_script;
+use script::{MAKE_LIMIT, TEXT_LIMIT, make_script, read_script};
 use std::alloc::{AllocError, Global};
 use std::sync::Wait;
 use std::thread::Threads;
-use step_run::{RunFault, run_step};
+use step_run::{RunFault, last_line, run_step};
 
-/// The line for words that are no form.
+/// The line for `help`, and for words that are no form.
 const USAGE: &[u8] = b"usage: latch step | replay [--json] | make N | help\n";
+
+/// The line where memory was refused.
+const NO_MEMORY: &[u8] = b"out of memory\n";
 
 /// Runs the program on these words, and answers how it ended.
 ///
 /// The words are those behind the program's name. `step` reads a script from `source`, runs it step by step and writes its output to
-/// `sink`; every other list of words writes the usage line. The lines of faults go to the sink as well. The output is built whole and
-/// then written.
+/// `sink`. `make N` does so with the generated script of N requests and writes the last line alone. `help` writes the usage line, as every
+/// list of words does that is no form. The lines of faults go to the sink as well. The output is built whole and then written.
 pub fn run<R: Threads + Wait + Sync, S: Source, O: Sink>(
     rt: &R,
     alloc: Global,
@@ -50,6 +58,14 @@ pub fn run<R: Threads + Wait + Sync, S: Source, O: Sink>(
     // What `step` writes in the end is the step output of the script that was read.
     ensures steps { form_of (map string_bytes words.now) ≡ Form.Step → result ≡ Status.Done →
         WritesSteps (reading S.left S.faults source.old source.new) (O.written sink.old) (O.written sink.new) }
+
+    // What `make` writes in the end is the last line of the step output of the generated script of so many requests.
+    ensures makes { (n : _) → form_of (map string_bytes words.now) ≡ Form.Make n → result ≡ Status.Done →
+        WritesMade n (O.written sink.old) (O.written sink.new) }
+
+    // `help` writes the usage line.
+    ensures helps { form_of (map string_bytes words.now) ≡ Form.Help → result ≢ Status.WriteFault →
+        (result ≡ Status.Done) × Appends (O.written sink.old) (O.written sink.new) usage_line }
 
     // Words that are a form, and a script where the form reads one: unless a device fails, the run is done or memory was refused.
     ensures complete { form_of (map string_bytes words.now) ≢ Form.Usage →
@@ -76,6 +92,10 @@ pub fn run_still<S: Source, O: Sink>(
     ensures untouched { reads (form_of (map string_bytes words.now)) ≡ false → source.new ≡ source.old }
     ensures steps { form_of (map string_bytes words.now) ≡ Form.Step → result ≡ Status.Done →
         WritesSteps (reading S.left S.faults source.old source.new) (O.written sink.old) (O.written sink.new) }
+    ensures makes { (n : _) → form_of (map string_bytes words.now) ≡ Form.Make n → result ≡ Status.Done →
+        WritesMade n (O.written sink.old) (O.written sink.new) }
+    ensures helps { form_of (map string_bytes words.now) ≡ Form.Help → result ≢ Status.WriteFault →
+        (result ≡ Status.Done) × Appends (O.written sink.old) (O.written sink.new) usage_line }
     ensures complete { form_of (map string_bytes words.now) ≢ Form.Usage →
         (IsTrue (reads (form_of (map string_bytes words.now))) → HasScript (reading S.left S.faults source.old source.new)) →
         ¬ CountsFault (S.faults source.old) (S.faults source.new) → ¬ CountsFault (O.faults sink.old) (O.faults sink.new) →
@@ -83,6 +103,8 @@ pub fn run_still<S: Source, O: Sink>(
 {
     match form_of(words) {
         Form::Step => step(alloc, source, sink),
+        Form::Make { requests } => make(alloc, requests, sink),
+        Form::Help => tell(sink, Status::Done, USAGE),
         Form::Usage => tell(sink, Status::Usage, USAGE),
     }
 }
@@ -130,8 +152,35 @@ fn step<S: Source, O: Sink>(alloc: Global, source: &mut S, sink: &mut O) -> Stat
     match read_and_answer(alloc, source) {
         Ok(answer) => tell(sink, answer.status, answer.text.as_slice()),
         Err(Stop::ReadFault) => tell(sink, Status::ReadFault, b"read fault\n"),
-        Err(Stop::Memory) => tell(sink, Status::Memory, b"out of memory\n"),
+        Err(Stop::Memory) => tell(sink, Status::Memory, NO_MEMORY),
     }
+}
+
+// Runs a generated script step by step and writes the last line of its output.
+fn make<O: Sink>(alloc: Global, requests: u32, sink: &mut O) -> Status
+    requires { requests ≤ MAKE_LIMIT }
+    ensures written { (source : Reading) → result ≢ Status.WriteFault →
+        WritesAll (Form.Make requests) source result (O.written sink.old) (O.written sink.new) }
+    ensures part { (source : Reading) → result ≡ Status.WriteFault → WritesPart (Form.Make requests) source (O.written sink.old) (O.written sink.new) }
+    ensures write_fault { result ≡ Status.WriteFault → CountsFault (O.faults sink.old) (O.faults sink.new) }
+    ensures makes { result ≡ Status.Done → WritesMade requests (O.written sink.old) (O.written sink.new) }
+    ensures done { result ≢ Status.WriteFault → (result ≡ Status.Done) ⊎ (result ≡ Status.Memory) }
+{
+    generated_is_a_script();
+    match made_output(alloc, requests) {
+        Ok(output) => tell(sink, Status::Done, last_line(output.as_slice())),
+        Err(_) => tell(sink, Status::Memory, NO_MEMORY),
+    }
+}
+
+// The step output of a generated script.
+fn made_output(alloc: Global, requests: u32) -> Result<Vec<u8>, RunFault>
+    requires { requests ≤ MAKE_LIMIT }
+    ensures output { IfOk result (λ out. out.items ≡ step_output (generated requests)) }
+    ensures ends { IfOk result (λ out. EndsLine out.items) }
+{
+    let script = make_script(alloc, requests)?;
+    run_step(alloc, &script)
 }
 
 // Reads the input and answers it.

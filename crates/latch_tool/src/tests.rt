@@ -478,3 +478,63 @@ fn an_input_that_is_no_script_is_refused(rt: HostRuntime) -> Result<(), Fail> {
     refuses(&rt, alloc, long.as_slice(), 0, 18)?;
     Ok(())
 }
+
+// Tells that these words are no form.
+fn is_no_form(rt: &impl Abort, alloc: Global, words: &[&str]) -> Result<(), AllocError> {
+    let usage = b"usage: latch step | replay [--json] | make N | help\n";
+    let ran = ran(alloc, words, b"", &[], &[])?;
+    assert!(rt; ran.status == Status::Usage);
+    assert!(rt; ran.written.as_slice() == usage.as_slice());
+    Ok(())
+}
+
+#[test]
+fn make_writes_the_last_line_of_a_generated_script(rt: HostRuntime) -> Result<(), Fail> {
+    let alloc = rt.alloc();
+    let one = ran(alloc, &["make", "1"], b"", &[0], &[])?;
+    assert!(rt; one.status == Status::Done);
+    let line = b"requests 1 granted 1 checked 0 poisoned 0 cancelled 0 never 0\n";
+    assert!(rt; one.written.as_slice() == line.as_slice());
+    let most = ran(alloc, &["make", "20000"], b"", &[], &[])?;
+    assert!(rt; most.status == Status::Done);
+    assert!(rt; most.written.starts_with(b"requests 20000 "));
+    let again = ran(alloc, &["make", "20000"], b"", &[], &[])?;
+    assert!(rt; most.written.as_slice() == again.written.as_slice());
+    Ok(())
+}
+
+#[test]
+fn help_writes_the_usage_line(rt: HostRuntime) -> Result<(), Fail> {
+    let alloc = rt.alloc();
+    let usage = b"usage: latch step | replay [--json] | make N | help\n";
+    let help = ran(alloc, &["help"], b"", &[0], &[])?;
+    assert!(rt; help.status == Status::Done);
+    assert!(rt; help.written.as_slice() == usage.as_slice());
+    let unwritten = ran(alloc, &["help"], b"", &[], &[1])?;
+    assert!(rt; unwritten.status == Status::WriteFault);
+    assert!(rt; unwritten.written.as_slice() == b"usage".as_slice());
+    Ok(())
+}
+
+#[test]
+fn a_number_out_of_form_is_usage(rt: HostRuntime) -> Result<(), Fail> {
+    let alloc = rt.alloc();
+    is_no_form(&rt, alloc, &["make"])?;
+    is_no_form(&rt, alloc, &["make", "0"])?;
+    is_no_form(&rt, alloc, &["make", "01"])?;
+    is_no_form(&rt, alloc, &["make", "20001"])?;
+    is_no_form(&rt, alloc, &["make", "+1"])?;
+    is_no_form(&rt, alloc, &["make", ""])?;
+    Ok(())
+}
+
+#[test]
+fn words_more_or_less_are_usage(rt: HostRuntime) -> Result<(), Fail> {
+    let alloc = rt.alloc();
+    is_no_form(&rt, alloc, &["make", "1", "1"])?;
+    is_no_form(&rt, alloc, &["1", "make"])?;
+    is_no_form(&rt, alloc, &["help", "help"])?;
+    is_no_form(&rt, alloc, &["replay", "--json", "--json"])?;
+    is_no_form(&rt, alloc, &["--", "step"])?;
+    Ok(())
+}

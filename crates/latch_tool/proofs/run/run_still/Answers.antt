@@ -1,7 +1,8 @@
-use Rattle.std.proofs.Common.{◌≡◌, ◌≢◌, ◌∙◌, ap, subst, sym}
-use Rattle.latch_tool.specs.Outcomes.{WritesAll, reading}
+use Rattle.std.proofs.Common.{ℕ, ◌≡◌, ◌≢◌, ◌∙◌, ap, subst, sym}
+use Rattle.latch_tool.specs.Outcomes.{WritesAll, WritesMade, WritesPart, reading}
 use Rattle.latch_tool.specs.Words.{reads}
-use Rattle.latch_tool.proofs.Endings.{step_done, writes_steps}
+use Rattle.latch_tool.proofs.Endings.{same_number, step_done, writes_steps}
+use Rattle.latch_tool.specs.declared.form.Form.{Form}
 use Rattle.latch_tool.specs.declared.form.Form.TheVariants as form
 use Rattle.latch_tool.specs.declared.status.Status.{Status}
 use Rattle.latch_tool.specs.declared.status.Status.TheVariants.{Done, WriteFault}
@@ -20,5 +21,28 @@ returns-in-Step-clause-complete g c = λ _ has sound kept.
     let source = reading g.S.Source.left g.S.Source.faults c.args.source.now c.step.new.source in
     let before = g.O.Sink.written c.args.sink.now in
     let now = g.O.Sink.written c.step.new.sink in
-    let is = ap reads (sym c.in-Step.ensures) in
+    let is = ap reads (sym c.in-Step.ensures.form) in
     step_done source c.step.result before now (has is) sound (c.step.ensures.written (λ e. kept (c.step.ensures.write_fault e)))
+
+pub returns-in-Make-clause-written : goal.returns-in-Make-clause-written
+returns-in-Make-clause-written g c = λ kept.
+    let source = reading g.S.Source.left g.S.Source.faults c.args.source.now c.args.source.now in
+    let before = g.O.Sink.written c.args.sink.now in
+    let now = g.O.Sink.written c.make.new.sink in
+    subst (λ (f : Form). WritesAll f source c.make.result before now) c.in-Make.ensures.form (c.make.ensures.written source kept)
+
+pub returns-in-Make-clause-part : goal.returns-in-Make-clause-part
+returns-in-Make-clause-part g c = λ failed.
+    let source = reading g.S.Source.left g.S.Source.faults c.args.source.now c.args.source.now in
+    let before = g.O.Sink.written c.args.sink.now in
+    let now = g.O.Sink.written c.make.new.sink in
+    subst (λ (f : Form). WritesPart f source before now) c.in-Make.ensures.form (c.make.ensures.part source failed)
+
+pub returns-in-Make-clause-makes : goal.returns-in-Make-clause-makes
+returns-in-Make-clause-makes g c = λ n is done.
+    let before = g.O.Sink.written c.args.sink.now in
+    let now = g.O.Sink.written c.make.new.sink in
+    subst (λ (k : ℕ). WritesMade k before now) (same_number c.in-Make.requests n (c.in-Make.ensures.form ∙ is)) (c.make.ensures.makes done)
+
+pub returns-in-Make-clause-complete : goal.returns-in-Make-clause-complete
+returns-in-Make-clause-complete g c = λ _ _ _ kept. c.make.ensures.done (λ e. kept (c.make.ensures.write_fault e))
