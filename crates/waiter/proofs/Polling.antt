@@ -182,15 +182,6 @@ poisoned_poll s t turns last f x policy p place found j is whose which = record 
   turns = refl;
 }
 
-pub same_but : (policy : Policy) (s t : LaneSays) (p : ℕ) (b : Bool) (turns more : ℕ) (last next : Last) → Judged policy s t p b →
-    SameBut (record { table = s.table; r = s.r; turns = turns; last = last }) (record { table = t.table; r = t.r; turns = more; last = next })
-same_but policy s t p b turns more last next j = record {
-  table = ap (λ w. w.table) j.same;
-  request = ap (λ w. w.r) j.same;
-  ended = j.ended;
-  poisoned = j.poisoned;
-}
-
 -- Each prerequisite is known ended.
 pub ready : (r : RequestView) → AllEnded r.ended (waits_for r) → IsReady r
 ready r all = λ p lane w. subst (Contains r.ended) w.2 (all w.0 w.1)

@@ -25,9 +25,6 @@ learns_end b p s t e = subst (Learns s) (sym e) (by b)
     by true = (refl, λ q h. heard (p ∷ []) s.r.ended q h)
     by false = (refl, λ q h. h)
 
-pub learns_nothing : (s : LaneSays) → Learns s s
-learns_nothing s = (refl, λ q h. h)
-
 pub learns_both : (s t u : LaneSays) → Learns s t → Learns t u → Learns s u
 learns_both s t u a b =
     (b.0 ∙ ap (λ (w : LaneSays). record w { r = record w.r { ended = u.r.ended } }) a.0, λ p h. b.1 p (a.1 p h))
@@ -35,11 +32,6 @@ learns_both s t u a b =
 -- what it waits for stays
 pub waits_stay : (s t : LaneSays) → Learns s t → waits_for t.r ≡ waits_for s.r
 waits_stay s t a = ap (λ (w : LaneSays). waits_for w.r) a.0
-
--- what was asked is known
-pub known_end : (b : Bool) (p : ℕ) (s t : LaneSays) → t ≡ record s { r = told_end b p s.r } → b ≡ true → Contains t.r.ended p
-known_end true p s t e is = subst (λ (w : LaneSays). Contains w.r.ended p) (sym e) (0, omega arith, refl)
-known_end false p s t e is = cc
 
 -- held latches of requests that are known ended
 pub ended_grow : (ended more : List ℕ) (xs : List HeldLatch) → ((p : ℕ) → Contains ended p → Contains more p) → AllEnded ended xs → AllEnded more xs
@@ -122,9 +114,6 @@ take_right (x ∷ xs) ys n =
     ap (λ m. take m (x ∷ xs ++ ys)) same ∙ ap (λ zs. x ∷ zs) (take_right xs ys n)
 
 -- what a latch looks at, by its access
-pub looks_read : (s : Snapshot) (l : Latch) (ws : List HeldLatch) → ws ≡ list_of s (scope_of l.span) Write → l.access ≡ Read → looked_at s l ≡ ws ++ []
-looks_read s l ws w e = λ i. (sym w i) ++ (if writes (e i) then list_of s (scope_of l.span) Read else [])
-
 pub looks_write : (s : Snapshot) (l : Latch) (ws rs : List HeldLatch) → ws ≡ list_of s (scope_of l.span) Write → rs ≡ list_of s (scope_of l.span) Read →
     l.access ≡ Write → looked_at s l ≡ ws ++ rs
 looks_write s l ws rs w r e = (λ i. (sym w i) ++ (if writes (e i) then list_of s (scope_of l.span) Read else [])) ∙ ap (λ xs. ws ++ xs) (sym r)
