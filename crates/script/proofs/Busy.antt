@@ -7,7 +7,7 @@ use Rattle.std.proofs.lemmas.Bool.Decides.{eqb_tells}
 use Rattle.std.proofs.lemmas.List.{get_or-set_same, get_or-set_other, length-set, get_or_past}
 use Rattle.std.proofs.lemmas.Slice.Eq.{bytes_eq-Decides}
 use Rattle.script.specs.Commands.{same_name}
-use Rattle.script.specs.Names.{Sessions, open_in, waits, ended}
+use Rattle.script.specs.Names.{Sessions, open_in, with_wait, with_release}
 use Rattle.script.specs.declared.draft.Opened.{Opened}
 use Rattle.script.proofs.Choices.{and_both, and_parts, chosen, false-true}
 
@@ -130,14 +130,14 @@ open_sessions {old} {new} {busy} {name} {o} k = record {
 
 -- ---- a wait
 
-open_waits : (s : ℕ) (x : Option Opened) → open_in s (option_map waits x) ≡ open_in s x
+open_waits : (s : ℕ) (x : Option Opened) → open_in s (option_map with_wait x) ≡ open_in s x
 open_waits s None = refl
 open_waits s (Some o) = refl
 
 pub wait_sessions : (old new : List ℕ → Option Opened) (busy : List Bool) (name : List ℕ)
-    → ((q : List ℕ) → new q ≡ cond (same_name name q) (option_map waits (old q)) (old q)) → Sessions old busy → Sessions new busy
+    → ((q : List ℕ) → new q ≡ cond (same_name name q) (option_map with_wait (old q)) (old q)) → Sessions old busy → Sessions new busy
 wait_sessions old new busy name is k =
-    keep_sessions old new busy (λ s q. elim (chosen (same_name name q) (option_map waits (old q)) (old q) (new q) (is q)) [
+    keep_sessions old new busy (λ s q. elim (chosen (same_name name q) (option_map with_wait (old q)) (old q) (new q) (is q)) [
       | inl p ↦ ap (open_in s) p.1 ∙ open_waits s (old q)
       | inr p ↦ ap (open_in s) p.1
     ]) k
@@ -147,11 +147,11 @@ wait_sessions old new busy name is k =
 -- what releasing a live name changes
 pub record Ends (old new : List ℕ → Option Opened) (busy : List Bool) (name : List ℕ) (o : Opened) : Type 0 where
   pub was : Sessions old busy
-  pub is : (q : List ℕ) → new q ≡ cond (same_name name q) (option_map ended (old q)) (old q)
+  pub is : (q : List ℕ) → new q ≡ cond (same_name name q) (option_map with_release (old q)) (old q)
   pub some : old name ≡ Some o
   pub live : o.released ≡ false
 
-not_open : (s : ℕ) (x : Option Opened) → is_open s (option_map ended x) → ⊥
+not_open : (s : ℕ) (x : Option Opened) → is_open s (option_map with_release x) → ⊥
 not_open s None h = false-true h
 not_open s (Some o) h = false-true (and_parts (eqb o.session s) false h).1
 
@@ -159,8 +159,8 @@ not_open s (Some o) h = false-true (and_parts (eqb o.session s) false h).1
 other : {old new : List ℕ → Option Opened} {busy : List Bool} {name : List ℕ} {o : Opened} → Ends old new busy name o → (s : ℕ) (q : List ℕ)
     → is_open s (new q) → (same_name name q ≡ false) × is_open s (old q)
 other {old} {new} {busy} {name} {o} k s q h =
-    elim (chosen (same_name name q) (option_map ended (old q)) (old q) (new q) (k.is q)) [
-      | inl p ↦ absurd (not_open s (old q) (open_along s (new q) (option_map ended (old q)) p.1 h))
+    elim (chosen (same_name name q) (option_map with_release (old q)) (old q) (new q) (k.is q)) [
+      | inl p ↦ absurd (not_open s (old q) (open_along s (new q) (option_map with_release (old q)) p.1 h))
       | inr p ↦ (p.0, open_along s (new q) (old q) p.1 h)
     ]
 
@@ -178,7 +178,7 @@ some_ended {old} {new} {busy} {name} {o} k s h =
       | inl e ↦ absurd (false-true (sym (at_place busy o.session s false (session_low k) e) ∙ h))
       | inr ne ↦
           let w = k.was.some s (sym (get_or-set_other busy o.session s false false ne) ∙ h) in
-          elim (chosen (same_name name w.0) (option_map ended (old w.0)) (old w.0) (new w.0) (k.is w.0)) [
+          elim (chosen (same_name name w.0) (option_map with_release (old w.0)) (old w.0) (new w.0) (k.is w.0)) [
             | inl p ↦ absurd (ne (session_is s o (open_along s (old w.0) (Some o) (ap old (sym (same_is name w.0 p.0)) ∙ k.some) w.1)))
             | inr p ↦ (w.0, open_along s (old w.0) (new w.0) (sym p.1) w.1)
           ]

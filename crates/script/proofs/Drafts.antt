@@ -6,7 +6,7 @@ use Rattle.std.specs.Option.{is_some}
 use Rattle.std.proofs.lemmas.Bool.{cases_lt, eq-eqb}
 use Rattle.std.proofs.lemmas.Bool.Decides.{same_from_decides}
 use Rattle.std.proofs.lemmas.List.{length-replicate, get_or-replicate, get_or_past}
-use Rattle.script.specs.Commands.{same_name, opens_live, releases, waits_for, is_used, is_live, is_busy, is_checkable, leaves_live, some_live}
+use Rattle.script.specs.Commands.{same_name, opens_live, releases, is_used, is_live, is_busy, leaves_live, some_live}
 use Rattle.script.specs.Names.{Keeps, Tracks, find, used_in, owned_by, optimistic_in, waited_in, released_in, open_in, opens_for}
 use Rattle.script.specs.Scripts.{is_name}
 use Rattle.script.specs.declared.command.Command.{Command}
@@ -130,10 +130,6 @@ used_is d q k = k.tracks.used q
 pub live_is : (d : Draft) (q : List ℕ) → Keeps d → is_live d.commands.items q ≡ (used_in (find d q) && not (released_in (find d q)))
 live_is d q k = ap (λ (b : Bool). b && not (list_any (releases q) d.commands.items)) (k.tracks.used q)
     ∙ ap (λ (b : Bool). used_in (find d q) && not b) (k.tracks.released q)
-
-pub checkable_is : (d : Draft) (q : List ℕ) → Keeps d → is_checkable d.commands.items q ≡ (optimistic_in (find d q) && not (waited_in (find d q)))
-checkable_is d q k = ap (λ (b : Bool). b && not (list_any (waits_for q) d.commands.items)) (k.tracks.optimistic q)
-    ∙ ap (λ (b : Bool). optimistic_in (find d q) && not b) (k.tracks.waited q)
 
 open_parts : (s : ℕ) (x : Option Opened) → open_in s x ≡ true → (owned_by s x ≡ true) × ((used_in x && not (released_in x)) ≡ true)
 open_parts s None h = absurd (false-true h)

@@ -40,7 +40,8 @@ less_cmp m n lt = rw (lt-ltb m n lt) refl
 
 two_less : (f a b c d : ℕ) → (a < c) ⊎ ((a ≡ c) × (b < d)) → key_lt (f ∷ a ∷ b ∷ []) (f ∷ c ∷ d ∷ []) ≡ true
 two_less f a b c d (inl lt) = rw (same_cmp f, less_cmp a c lt) refl
-two_less f a b c d (inr same) = subst (λ (x : ℕ). key_lt (f ∷ a ∷ b ∷ []) (f ∷ x ∷ d ∷ []) ≡ true) same.0 (rw (same_cmp f, same_cmp a, less_cmp b d same.1) refl)
+two_less f a b c d (inr same) =
+    subst (λ (x : ℕ). key_lt (f ∷ a ∷ b ∷ []) (f ∷ x ∷ d ∷ []) ≡ true) same.0 (rw (same_cmp f, same_cmp a, less_cmp b d same.1) refl)
 
 high_first : (m n : ℕ) → m < n → (m / 256 < n / 256) ⊎ ((m / 256 ≡ n / 256) × (m % 256 < n % 256))
 high_first m n lt = grind arith
@@ -115,7 +116,8 @@ pub record IsDrawn (l : Latch) : Type 0 where
   pub latch : IsScriptLatch l
   pub short : length (latch_text l) ≤ 20
 
-drawn_by : (a : Access) (s : List ℕ × List ℕ) (wall : ℕ) → IsDrawnSpan s → s.0 ≢ [] → wall ≤ 1000 → IsDrawn (record { access = a; span = s; stamp = wall_stamp wall })
+drawn_by : (a : Access) (s : List ℕ × List ℕ) (wall : ℕ) → IsDrawnSpan s → s.0 ≢ [] → wall ≤ 1000 →
+    IsDrawn (record { access = a; span = s; stamp = wall_stamp wall })
 drawn_by a s wall is some low =
     let st = wall_stamp wall in
     let e = length-append (access_text a ++ span_text s) (stamp_text st) in

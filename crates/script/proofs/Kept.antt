@@ -9,9 +9,9 @@ use Rattle.latch_model.specs.declared.latch.Mode.{Mode}
 use Rattle.latch_model.specs.declared.latch.Mode.TheVariants.{Acquire, Optimistic, Look}
 use Rattle.latch_model.specs.declared.latch.Policy.{Policy}
 use Rattle.script.specs.Commands.{same_name, opens, opens_optimistic, waits_for, releases}
-use Rattle.script.specs.Names.{Tracks, used_in, owned_by, optimistic_in, waited_in, released_in, opens_for, is_optimistic, waits, ended}
+use Rattle.script.specs.Names.{Tracks, used_in, owned_by, optimistic_in, waited_in, released_in, opens_for, is_optimistic, with_wait, with_release}
 use Rattle.script.specs.declared.command.Command.{Command}
-use Rattle.script.specs.declared.command.Command.TheVariants.{Begin, Wait, Check, Poison, Release, Metrics}
+use Rattle.script.specs.declared.command.Command.TheVariants.{Begin, Wait, Release}
 use Rattle.script.specs.declared.draft.Opened.{Opened}
 use Rattle.script.proofs.Choices.{or_no, or_right, and_no, and_true}
 
@@ -34,38 +34,6 @@ track old new cs c t m = record {
   optimistic = λ q. more (opens_optimistic q) cs c (optimistic_in (old q)) (t.optimistic q) ∙ sym (m q).optimistic;
   waited = λ q. more (waits_for q) cs c (waited_in (old q)) (t.waited q) ∙ sym (m q).waited;
   released = λ q. more (releases q) cs c (released_in (old q)) (t.released q) ∙ sym (m q).released;
-}
-
--- ---- commands that change nothing of what is kept
-
-pub check_moves : (x : Option Opened) (name q : List ℕ) (latches : List Latch) → Moves x x (Check name latches) q
-check_moves x name q latches = record {
-  used = or_no (used_in x);
-  owner = λ s. or_no (owned_by s x);
-  optimistic = or_no (optimistic_in x);
-  waited = or_no
-      (waited_in x);
-  released = or_no (released_in x);
-}
-
-pub poison_moves : (x : Option Opened) (name q : List ℕ) → Moves x x (Poison name) q
-poison_moves x name q = record {
-  used = or_no (used_in x);
-  owner = λ s. or_no (owned_by s x);
-  optimistic = or_no (optimistic_in x);
-  waited = or_no
-      (waited_in x);
-  released = or_no (released_in x);
-}
-
-pub metrics_moves : (x : Option Opened) (q : List ℕ) → Moves x x Metrics q
-metrics_moves x q = record {
-  used = or_no (used_in x);
-  owner = λ s. or_no (owned_by s x);
-  optimistic = or_no (optimistic_in x);
-  waited = or_no
-      (waited_in x);
-  released = or_no (released_in x);
 }
 
 -- ---- an opening, of a name that isn't used
@@ -110,7 +78,7 @@ begin_moves session name mode policy turns latches o q old false e h f = record 
 -- ---- a wait and a release, of a name that is used
 
 pub wait_moves : (name q : List ℕ) (old : Option Opened) (b : Bool) → same_name name q ≡ b → (b ≡ true → used_in old ≡ true)
-    → Moves old (cond b (option_map waits old) old) (Wait name) q
+    → Moves old (cond b (option_map with_wait old) old) (Wait name) q
 wait_moves name q None true e h = let u : false ≡ true = h refl in absurd cc
 wait_moves name q (Some x) true e h = record {
   used = refl;
@@ -128,7 +96,7 @@ wait_moves name q old false e h = record {
 }
 
 pub release_moves : (name q : List ℕ) (old : Option Opened) (b : Bool) → same_name name q ≡ b → (b ≡ true → used_in old ≡ true)
-    → Moves old (cond b (option_map ended old) old) (Release name) q
+    → Moves old (cond b (option_map with_release old) old) (Release name) q
 release_moves name q None true e h = let u : false ≡ true = h refl in absurd cc
 release_moves name q (Some x) true e h = record {
   used = refl;

@@ -16,10 +16,6 @@ regroup : (front : List Latch) (l : Latch) (r : Result (List Latch) ℕ) → wit
 regroup front l (Ok ls) = ap (λ (x : List Latch). Ok x) (sym (append_assoc front (l ∷ []) ls))
 regroup front l (Err cause) = refl
 
-pub begins_so : (total : Result (List Latch) ℕ) → with_front [] total ≡ total
-begins_so (Ok ls) = refl
-begins_so (Err cause) = refl
-
 pub goes_on : (front : List Latch) (f : List ℕ) (rest : List (List ℕ)) (l : Latch) (total : Result (List Latch) ℕ) → latch_at f ≡ Ok l
     → with_front front (latches_at (f ∷ rest)) ≡ total → with_front (front ++ l ∷ []) (latches_at rest) ≡ total
 unfolding latches_at

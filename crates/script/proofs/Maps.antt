@@ -77,14 +77,6 @@ pub marked : {S T : Type 0} (m : HashMap ℕ Opened S) (n : HashMap ℕ Opened T
     → (k : ℕ) → get nat_eq n k ≡ cond (eqb key k) (option_map t (get nat_eq m key)) (get nat_eq m k)
 marked m n key t o e h k = h k ∙ ap (λ (x : Option Opened). cond (eqb key k) (option_map t x) (get nat_eq m k)) (sym e)
 
-pub unmarked : {S : Type 0} (m : HashMap ℕ Opened S) (key : ℕ) (t : Opened → Opened) → get nat_eq m key ≡ None
-    → (k : ℕ) → get nat_eq m k ≡ cond (eqb key k) (option_map t (get nat_eq m key)) (get nat_eq m k)
-unmarked m key t e k = by (eqb key k) refl
-  where
-    by : (b : Bool) → eqb key k ≡ b → get nat_eq m k ≡ cond b (option_map t (get nat_eq m key)) (get nat_eq m k)
-    by true is = ap (get nat_eq m) (sym (eqb-true key k is)) ∙ e ∙ ap (option_map t) (sym e)
-    by false is = refl
-
 -- ---- the session of a name that is kept
 
 some_session : (x : Option Opened) (w : ℕ) (P : ℕ → Type 0) → Some w ≡ option_map (λ (o : Opened). o.session) x → P w → IfSome x (λ (o : Opened). P o.session)

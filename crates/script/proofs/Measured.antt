@@ -15,8 +15,8 @@ use Rattle.latch_model.specs.declared.latch.Policy.TheVariants.{Wait as policy_w
 use Rattle.script.specs.declared.command.Command.{Command}
 use Rattle.script.specs.declared.command.Command.TheVariants.{Begin, Wait, Check, Poison, Release}
 use Rattle.script.specs.Commands.{fields_of, line_of, mode_text, policy_text}
-use Rattle.script.specs.Generated.{begun, closed_before, closing, closings_from, draw, drawn_latches, first_check, generated, last_closings, mode_of, name_of}
-use Rattle.script.specs.Generated.{opening_of, openings_from, poisoning, policy_of, skips_wait}
+use Rattle.script.specs.Generated.{begin_command, closed_before, closing, closings_from, draw, drawn_latches, first_check, generated, last_closings}
+use Rattle.script.specs.Generated.{mode_of, name_of, opening_of, openings_from, poisoning, policy_of, skips_wait}
 use Rattle.script.specs.Scripts.{AreScriptLatches, FitsLimit, IsCommand, IsScriptLatch, is_letter, is_name, is_name_byte}
 use Rattle.script.specs.Spaced.{spaced}
 use Rattle.script.specs.Texts.{latch_text}
@@ -180,7 +180,8 @@ fit_closing : (b : Bool) (i : ℕ) → i < 20000 → Fit (cond b (Release (name_
 fit_closing true i low = let r = fit_release i low in record { each = r.each; short = let s = r.short in omega arith }
 fit_closing false i low =
     let n = named_size (codes "wait") i low in
-    fit_both (Wait (name_of i) ∷ []) (Release (name_of i) ∷ []) 12 15 27 (fit_one (Wait (name_of i)) 12 (name_is i low) (omega arith)) (fit_release i low) (omega arith)
+    fit_both (Wait (name_of i) ∷ []) (Release (name_of i) ∷ []) 12 15 27
+    (fit_one (Wait (name_of i)) 12 (name_is i low) (omega arith)) (fit_release i low) (omega arith)
 
 -- ---- all commands
 
@@ -191,7 +192,7 @@ fit_before false i low = fit_none 27
 fit_request : (i : ℕ) (ls : List Latch) → i < 20000 → length ls ≤ 4 → AllByRecursion IsDrawn ls → Fit (opening_of i ls) 186
 fit_request i ls low few each =
     let before = closed_before i in
-    let opening = begun i ls ∷ [] in
+    let opening = begin_command i ls ∷ [] in
     let checks = first_check (mode_of i) i ls in
     let poisons = poisoning i in
     let a = fit_before (leb 64 i) i low in

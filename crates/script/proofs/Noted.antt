@@ -8,7 +8,7 @@ use Rattle.latch_model.specs.declared.latch.Latch.{Latch}
 use Rattle.latch_model.specs.declared.latch.Mode.{Mode}
 use Rattle.latch_model.specs.declared.latch.Policy.{Policy}
 use Rattle.script.specs.Commands.{same_name, is_live, is_used, is_busy, live_cause, rule_cause}
-use Rattle.script.specs.Names.{Keeps, KnowsNames, Sessions, find, used_in, released_in, is_optimistic, waits, ended}
+use Rattle.script.specs.Names.{Keeps, KnowsNames, Sessions, find, used_in, released_in, is_optimistic, with_wait, with_release}
 use Rattle.script.specs.declared.command.Command.TheVariants.{Begin, Wait, Release}
 use Rattle.script.specs.declared.draft.Draft.{Draft}
 use Rattle.script.specs.declared.draft.Opened.{Opened}
@@ -79,7 +79,7 @@ used_there d name q k allowed h =
     ∙ (and_parts (used_in (find d name)) (not (released_in (find d name))) (is_so d name k allowed)).0
 
 pub wait_follows : (d e : Draft) (name : List ℕ) → Keeps d → live_cause d.commands.items name ≡ None
-    → ((q : List ℕ) → find e q ≡ cond (same_name name q) (option_map waits (find d q)) (find d q)) → e.busy ≡ d.busy
+    → ((q : List ℕ) → find e q ≡ cond (same_name name q) (option_map with_wait (find d q)) (find d q)) → e.busy ≡ d.busy
     → KnowsNames e (d.commands.items ++ Wait name ∷ [])
 wait_follows d e name k allowed is busy = record {
   tracks = track (find d) (find e) d.commands.items (Wait name) k.tracks (λ q.
@@ -105,13 +105,13 @@ some_if P x o e h = subst (λ (y : Option Opened). IfSome y P) (sym e) h
 pub release_low : (d : Draft) (name : List ℕ) → Keeps d → live_cause d.commands.items name ≡ None → IfSome (find d name) (λ o. o.session ≤ 64)
 release_low d name k allowed =
     let w = live_value (find d name) (is_so d name k allowed) in
-    let low : w.0.session < length d.busy = session_low {old = find d} {new = λ q. cond (same_name name q) (option_map ended (find d q)) (find d q)}
+    let low : w.0.session < length d.busy = session_low {old = find d} {new = λ q. cond (same_name name q) (option_map with_release (find d q)) (find d q)}
     {name = name} (record { was = k.sessions; is = λ q. refl; some = w.1; live = w.2 }) in
     let size = k.sessions.size in
     some_if (λ o. o.session ≤ 64) (find d name) w.0 w.1 (omega arith)
 
 pub release_follows : (d e : Draft) (name : List ℕ) → Keeps d → live_cause d.commands.items name ≡ None
-    → ((q : List ℕ) → find e q ≡ cond (same_name name q) (option_map ended (find d q)) (find d q))
+    → ((q : List ℕ) → find e q ≡ cond (same_name name q) (option_map with_release (find d q)) (find d q))
     → IfSome (find d name) (λ o. e.busy ≡ set d.busy o.session false)
     → KnowsNames e (d.commands.items ++ Release name ∷ [])
 release_follows d e name k allowed is busy =

@@ -40,10 +40,6 @@ none_of : (P : Command → Type 0) (p : Command → Bool) → ((c : Command) →
 none_of P p f [] a = refl
 none_of P p f (c ∷ cs) a = rw (f c a.0) (none_of P p f cs a.1)
 
--- whether one of some commands, or one more behind them, passes a test
-any_behind : (p : Command → Bool) (cs ds : List Command) (b : Bool) → list_any p ds ≡ b → list_any p (cs ++ ds) ≡ (list_any p cs || b)
-any_behind p cs ds b e = list_any-append p cs ds ∙ ap (λ (x : Bool). list_any p cs || x) e
-
 -- ---- names
 
 same_number : (i j : ℕ) → i < 2 ^ 64 → j < 2 ^ 64 → same_name (name_of i) (name_of j) ≡ eqb i j
@@ -168,7 +164,8 @@ lead_begin cs lo i mode policy ls s near from low =
     record {
       rules = (rw (idle, fresh) refl, tt);
       stands = record {
-        used = λ j below. list_any-append (opens (name_of j)) cs (begun_by i mode policy ls ∷ []) ∙ rw (s.used j below, same_number i j small below) (one_more i j);
+        used = λ j below. list_any-append (opens (name_of j)) cs (begun_by i mode policy ls ∷ [])
+            ∙ rw (s.used j below, same_number i j small below) (one_more i j);
         released = λ j below. same_behind (releases (name_of j)) cs (begun_by i mode policy ls) refl ∙ s.released j below;
         waited = λ j below behind. same_behind (waits_for (name_of j)) cs (begun_by i mode policy ls) refl ∙ s.waited j below behind;
         each = each_of_both IsNumbered cs (begun_by i mode policy ls ∷ []) s.each ((i, small, refl, refl), tt);

@@ -19,13 +19,6 @@ line_is f fs = ap (λ (x : List ℕ). x ++ 10 ∷ []) (joined f fs) ∙ append_a
 pub spaced-append : (fs gs : List (List ℕ)) → spaced (fs ++ gs) ≡ spaced fs ++ spaced gs
 spaced-append fs gs = flat_map-append (λ (g : List ℕ). 32 ∷ g) fs gs
 
--- one field more
-pub spaced_more : (out : List ℕ) (fs : List (List ℕ)) (f : List ℕ) → (out ++ spaced fs) ++ (32 ∷ f) ≡ out ++ spaced (fs ++ f ∷ [])
-spaced_more out fs f =
-    append_assoc out (spaced fs) (32 ∷ f)
-    ∙ ap (λ (x : List ℕ). out ++ x) (ap (λ (x : List ℕ). spaced fs ++ x) (sym (spaced-cons f [] ∙ ap (λ (x : List ℕ). 32 ∷ x) (append-nil f)))
-    ∙ sym (spaced-append fs (f ∷ [])))
-
 -- what was written part by part is a line
 pub check_line : (out word name : List ℕ) (fs : List (List ℕ)) → ((out ++ word) ++ (32 ∷ name)) ++ (spaced fs ++ 10 ∷ []) ≡ out ++ line_of (word ∷ name ∷ fs)
 check_line out word name fs =

@@ -1,5 +1,5 @@
 -- The definitions of a generated script, from one place on: at the end nothing is left, and before it comes one more and then the rest.
-use Rattle.std.proofs.Common.{◌≡◌, ℕ, suc, ◌+◌, ◌-◌, ◌%◌, ◌<◌, ◌≤◌, List, [], ◌∷◌, ◌++◌, refl, sym, ap, ◌∙◌, append-nil, append_assoc, arith}
+use Rattle.std.proofs.Common.{◌≡◌, ℕ, suc, ◌+◌, ◌-◌, ◌%◌, ◌<◌, ◌≤◌, List, [], ◌∷◌, ◌++◌, refl, sym, ap, ◌∙◌, append_assoc, arith}
 use Rattle.std.proofs.lemmas.Bool.{le-leb, lt-leb}
 use Rattle.latch_model.specs.declared.latch.Latch.{Latch}
 use Rattle.script.specs.declared.command.Command.{Command}
@@ -19,10 +19,6 @@ pub record Draws (list : List Latch) (last : ℕ) (rest : ℕ) (all : List Latch
   pub latches : list ++ (drawn_latches rest last).0 ≡ all.0
   pub number : (drawn_latches rest last).1 ≡ all.1
 
-pub draws_first : (n x : ℕ) → Draws [] x (n - 0) (drawn_latches n x)
-draws_first n x = let e : n - 0 ≡ n = omega arith in
-    record { latches = ap (λ (k : ℕ). (drawn_latches k x).0) e; number = ap (λ (k : ℕ). (drawn_latches k x).1) e }
-
 pub draws_on : (list : List Latch) (x n k : ℕ) (all : List Latch × ℕ) → k < n → Draws list x (n - k) all
     → (let d = draw x in let p = draw d in let e = draw p in let t = draw e in Draws (list ++ drawn_latch d p e t ∷ []) t (n - (k + 1)) all)
 draws_on list x n k all lt s =
@@ -34,16 +30,7 @@ draws_on list x n k all lt s =
       number = ap (λ (m : ℕ). (drawn_latches m x).1) (sym one) ∙ s.number;
     }
 
-pub draws_all : (list : List Latch) (x n : ℕ) (all : List Latch × ℕ) → Draws list x (n - n) all → (list ≡ all.0) × (x ≡ all.1)
-draws_all list x n all s = (
-  sym (append-nil list) ∙ ap (λ (m : ℕ). list ++ (drawn_latches m x).0) (sym (none_left n)) ∙ s.latches,
-  ap (λ (m : ℕ). (drawn_latches m x).1) (sym (none_left n)) ∙ s.number,
-)
-
 -- ---- openings
-
-pub openings_first : (out : List Command) (n x : ℕ) → out ++ openings_from (n - 0) 0 x ≡ out ++ openings_from n 0 x
-openings_first out n x = let e : n - 0 ≡ n = omega arith in ap (λ (k : ℕ). out ++ openings_from k 0 x) e
 
 pub openings_on : (out all : List Command) (n i x : ℕ) → i < n → out ++ openings_from (n - i) i x ≡ all
     → (let c = draw x in let ls = drawn_latches (1 + c % 4) c in (out ++ opening_of i ls.0) ++ openings_from (n - (i + 1)) (i + 1) ls.1 ≡ all)
@@ -53,16 +40,7 @@ openings_on out all n i x lt s =
     append_assoc out (opening_of i ls.0) (openings_from (n - (i + 1)) (i + 1) ls.1)
     ∙ ap (λ (m : ℕ). out ++ openings_from m i x) (sym (one_left n i lt)) ∙ s
 
-pub openings_all : (out all : List Command) (n x : ℕ) → out ++ openings_from (n - n) n x ≡ all → out ≡ all
-openings_all out all n x s = sym (append-nil out) ∙ ap (λ (m : ℕ). out ++ openings_from m n x) (sym (none_left n)) ∙ s
-
 -- ---- closings
-
-pub closings_first : (out : List Command) (n first : ℕ) → out ++ closings_from (n - 0) (first + 0) ≡ out ++ closings_from n first
-closings_first out n first =
-    let e : n - 0 ≡ n = omega arith in
-    let f : first + 0 ≡ first = omega arith in
-    ap (λ (k : ℕ). out ++ closings_from k (first + 0)) e ∙ ap (λ (k : ℕ). out ++ closings_from n k) f
 
 pub closings_on : (out all : List Command) (n first k : ℕ) → k < n → out ++ closings_from (n - k) (first + k) ≡ all
     → (out ++ closing (first + k)) ++ closings_from (n - (k + 1)) (first + (k + 1)) ≡ all
@@ -71,9 +49,6 @@ closings_on out all n first k lt s =
     ap (λ (i : ℕ). (out ++ closing (first + k)) ++ closings_from (n - (k + 1)) i) f
     ∙ append_assoc out (closing (first + k)) (closings_from (n - (k + 1)) ((first + k) + 1))
     ∙ ap (λ (m : ℕ). out ++ closings_from m (first + k)) (sym (one_left n k lt)) ∙ s
-
-pub closings_all : (out all : List Command) (n i : ℕ) → out ++ closings_from (n - n) i ≡ all → out ≡ all
-closings_all out all n i s = sym (append-nil out) ∙ ap (λ (m : ℕ). out ++ closings_from m i) (sym (none_left n)) ∙ s
 
 pub last_few : (n : ℕ) → n ≤ 64 → closings_from n 0 ≡ last_closings n
 last_few n few = rw (le-leb n 64 few) refl

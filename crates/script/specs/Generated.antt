@@ -70,15 +70,15 @@ first_check Look i ls = []
 abbrev pub poisoning : ℕ → List Command
 poisoning i = if i % 97 == 50 then Poison (name_of i) ∷ [] else []
 
-abbrev pub begun : ℕ → List Latch → Command
-begun i ls = Begin (i % 64 + 1) (name_of i) (mode_of i) (policy_of i) None ls
+abbrev pub begin_command : ℕ → List Latch → Command
+begin_command i ls = Begin (i % 64 + 1) (name_of i) (mode_of i) (policy_of i) None ls
 
 -- Before request i is opened, the request 64 before it is closed, which was of the same session.
 abbrev pub closed_before : ℕ → List Command
 closed_before i = if nat_le 64 i then closing (i - 64) else []
 
 abbrev pub opening_of : ℕ → List Latch → List Command
-opening_of i ls = closed_before i ++ begun i ls ∷ [] ++ first_check (mode_of i) i ls ++ poisoning i
+opening_of i ls = closed_before i ++ begin_command i ls ∷ [] ++ first_check (mode_of i) i ls ++ poisoning i
 
 -- n requests from request i on, after x was drawn
 abbrev pub openings_from : ℕ → ℕ → ℕ → List Command

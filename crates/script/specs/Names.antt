@@ -43,11 +43,11 @@ released_in None = false
 released_in (Some o) = o.released
 
 -- a name that has had a wait, and one that was released
-abbrev pub waits : Opened → Opened
-waits o = record { session = o.session; optimistic = o.optimistic; waited = true; released = o.released }
+abbrev pub with_wait : Opened → Opened
+with_wait o = record { session = o.session; optimistic = o.optimistic; waited = true; released = o.released }
 
-abbrev pub ended : Opened → Opened
-ended o = record { session = o.session; optimistic = o.optimistic; waited = o.waited; released = true }
+abbrev pub with_release : Opened → Opened
+with_release o = record { session = o.session; optimistic = o.optimistic; waited = o.waited; released = true }
 
 -- whether a name is live and belongs to this session
 abbrev pub open_in : ℕ → Option Opened → Bool

@@ -4,7 +4,7 @@ ghost use Rattle.std.specs.Prelude.{option_map, slice_set, true, ℕ};
 ghost use Rattle.std.specs.HashMap.{get};
 ghost use Rattle.std.specs.List.{list_any};
 ghost use Rattle.script.specs.Commands.{is_busy, is_checkable, is_live, is_used, live_cause, rule_cause, same_name, some_live};
-ghost use Rattle.script.specs.Names.{KnowsNames, Keeps, ended, find, is_optimistic, waits};
+ghost use Rattle.script.specs.Names.{KnowsNames, Keeps, find, is_optimistic, with_release, with_wait};
 ghost use Rattle.script.specs.Causes.{number_of};
 ghost use Rattle.script.specs.Reading.{ok_unless};
 ghost use Rattle.script.specs.declared.fault.FaultCause.TheVariants.{BusySession, NoCheck, NoOpenName, UsedName};
@@ -191,7 +191,7 @@ impl Draft {
     // A name has had a wait.
     fn wait(&mut self, name: &Name)
         ensures same { self.new.commands ≡ self.old.commands }
-        ensures opened { (q : List ℕ) → find self.new q ≡ (if same_name name.now q then option_map waits (find self.old q) else find self.old q) }
+        ensures opened { (q : List ℕ) → find self.new q ≡ (if same_name name.now q then option_map with_wait (find self.old q) else find self.old q) }
         ensures busy { self.new.busy ≡ self.old.busy }
     {
         mark_waited(&mut self.opened, name.packed());
@@ -201,7 +201,7 @@ impl Draft {
     fn release(&mut self, name: &Name)
         requires { IfSome (find self.old name.now) (λ o. o.session ≤ 64) }
         ensures same { self.new.commands ≡ self.old.commands }
-        ensures opened { (q : List ℕ) → find self.new q ≡ (if same_name name.now q then option_map ended (find self.old q) else find self.old q) }
+        ensures opened { (q : List ℕ) → find self.new q ≡ (if same_name name.now q then option_map with_release (find self.old q) else find self.old q) }
         ensures busy { IfSome (find self.old name.now) (λ o. self.new.busy ≡ slice_set self.old.busy o.session false) }
     {
         if let Some(session) = mark_released(&mut self.opened, name.packed()) {
@@ -228,7 +228,7 @@ impl Opened {
 }
 
 fn mark_waited(opened: &mut HashMap<u128, Opened>, name: u128)
-    ensures { (k : ℕ) → get nat_eq opened.new k ≡ (if name == k then option_map waits (get nat_eq opened.old name) else get nat_eq opened.old k) }
+    ensures { (k : ℕ) → get nat_eq opened.new k ≡ (if name == k then option_map with_wait (get nat_eq opened.old name) else get nat_eq opened.old k) }
 {
     if let Some(known) = opened.get_mut(&name) {
         known.waited = true;
@@ -237,7 +237,7 @@ fn mark_waited(opened: &mut HashMap<u128, Opened>, name: u128)
 
 // Answers the name's session.
 fn mark_released(opened: &mut HashMap<u128, Opened>, name: u128) -> Option<u32>
-    ensures opened { (k : ℕ) → get nat_eq opened.new k ≡ (if name == k then option_map ended (get nat_eq opened.old name) else get nat_eq opened.old k) }
+    ensures opened { (k : ℕ) → get nat_eq opened.new k ≡ (if name == k then option_map with_release (get nat_eq opened.old name) else get nat_eq opened.old k) }
     ensures session { result ≡ option_map (λ o. o.session) (get nat_eq opened.old name) }
 {
     match opened.get_mut(&name) {

@@ -78,7 +78,8 @@ fn open(alloc: Global, i: u32, last: u32, out: &mut Vec<Command>) -> Result<u32,
 // The opening line of request i, and what follows it at once.
 fn begin(alloc: Global, i: u32, latches: Latches, out: &mut Vec<Command>) -> Result<(), Memory>
     requires { i < MAKE_LIMIT }
-    ensures { OnOk result (out.new.items ≡ ((out.old.items ++ spec.begun i latches ∷ []) ++ spec.first_check (spec.mode_of i) i latches) ++ spec.poisoning i) }
+    ensures { OnOk result (out.new.items
+        ≡ ((out.old.items ++ spec.begin_command i latches ∷ []) ++ spec.first_check (spec.mode_of i) i latches) ++ spec.poisoning i) }
 {
     let check = first_check(alloc, i, &latches)?;
     out.push(Command::Begin {

@@ -2,8 +2,8 @@
 use Rattle.std.proofs.Common.{◌≡◌, ℕ, Bool, true, false, eqb, List, [], ◌∷◌, ◌++◌, refl, subst, ◌∙◌}
 use Rattle.std.specs.List.{list_all}
 use Rattle.std.proofs.lemmas.Bool.{and_parts, and_from, or_from, false_from_ne_true, eqb-true}
-use Rattle.std.proofs.lemmas.List.Folds.{list_all-append, list_any-append}
-use Rattle.script.specs.Fields.{is_byte, has_byte}
+use Rattle.std.proofs.lemmas.List.Folds.{list_all-append}
+use Rattle.script.specs.Fields.{has_byte}
 
 -- each byte of a text passes a test
 abbrev pub Each : (ℕ → Bool) → List ℕ → Type 0
@@ -30,6 +30,3 @@ lacks p b (c ∷ t) f h =
     let other : eqb c b ≡ false = false_from_ne_true (eqb c b)
     (λ e. let s : c ≡ b = eqb-true c b e in let x : p b ≡ true = subst (λ (k : ℕ). p k ≡ true) s g.0 in cc) in
     or_from (eqb c b) (has_byte b t) other (lacks p b t f g.1)
-
-pub lacks-append : (b : ℕ) (s t : List ℕ) → has_byte b s ≡ false → has_byte b t ≡ false → has_byte b (s ++ t) ≡ false
-lacks-append b s t h g = list_any-append (is_byte b) s t ∙ or_from (has_byte b s) (has_byte b t) h g

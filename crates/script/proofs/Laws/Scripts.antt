@@ -139,6 +139,3 @@ fault_none b = (
   λ e. let a = none_ok (script_at b) e in (a.0, script_takes b a.0 a.1),
   λ s. ap result_err (script_again b s.0 s.1),
 )
-
-pub fault_some : (b : List ℕ) (f : ℕ × ℕ) → fault b ≡ Some f → (cs : List Command) → Spells b cs → ⊥
-fault_some b f e cs s = let none : fault b ≡ None = (fault_none b).1 (cs, s) in cc

@@ -1,16 +1,16 @@
 use Rattle.std.proofs.Common.{◌≡◌, ◌≤◌, ℕ, false, set, refl, sym, ◌∙◌, arith}
-use Rattle.script.specs.Names.{ended}
+use Rattle.script.specs.Names.{with_release}
 use Rattle.script.proofs.Maps.{changed_by, kept_session, no_kept_session, session_kept}
 use Rattle.script.proofs.draft.Draft.release.Goals as goal
 
 pub returns-in-Some-clause-opened : goal.returns-in-Some-clause-opened
 returns-in-Some-clause-opened c =
-    changed_by c.args.self.now.opened c.mark_released.new.opened c.packed.result c.args.name.now ended c.packed.ensures.number c.packed.ensures.spelled
+    changed_by c.args.self.now.opened c.mark_released.new.opened c.packed.result c.args.name.now with_release c.packed.ensures.number c.packed.ensures.spelled
     c.mark_released.ensures.opened
 
 pub returns-in_default-clause-opened : goal.returns-in_default-clause-opened
 returns-in_default-clause-opened c =
-    changed_by c.args.self.now.opened c.mark_released.new.opened c.packed.result c.args.name.now ended c.packed.ensures.number c.packed.ensures.spelled
+    changed_by c.args.self.now.opened c.mark_released.new.opened c.packed.result c.args.name.now with_release c.packed.ensures.number c.packed.ensures.spelled
     c.mark_released.ensures.opened
 
 pub bounds-self-session : goal.bounds-self-session
