@@ -107,7 +107,8 @@ pub record IsLeft (old new r : RequestView) : Type 0 where
   pub shot : r.shot ≡ old.shot
   pub cause : r.cause ≡ new.cause
 
-fits_left : (s : State) (n : Named) (old new r : RequestView) → FitsRequest s.history n old → IsLeft old new r → new.cause ≡ old.cause → FitsRequest s.history n r
+fits_left : (s : State) (n : Named) (old new r : RequestView) → FitsRequest s.history n old → IsLeft old new r → new.cause ≡ old.cause →
+    FitsRequest s.history n r
 fits_left s n old new r f l e =
     fits_again s n n old r n.cause f l.id (ap (λ q. q.policy) l.request) (ap (λ q. q.latches) l.request) l.shot (l.cause ∙ e ∙ f.cause) refl refl refl
 
@@ -173,7 +174,8 @@ found_as s n old new r x Wait k b l p f =
 found_as s n old new r x Error k b l p f = found_sound s n old new r x k b l f
 
 pub asked_blocked : (s : State) (n : Named) (by place : ℕ) (first old new end : WaitingSays) → (p : IsBlockedPoll old new by place) →
-    IsAsked s n old.r new.r by → IsLeft old.r new.r end.r → end.last ≡ new.last → end.turns ≡ new.turns → old.turns ≡ first.turns → AskedBlocked s n by first end
+    IsAsked s n old.r new.r by → IsLeft old.r new.r end.r → end.last ≡ new.last → end.turns ≡ new.turns → old.turns ≡ first.turns →
+    AskedBlocked s n by first end
 asked_blocked s n by place first old new end p k l last turns same =
     let x : HeldLatch = p.latch in
     let b = blocker_is s n old.r new.r x k.fits k.shown k.ended p.first in

@@ -1,6 +1,6 @@
 -- What the functions of the other commands do to a run is what the definition does to a state.
-use Rattle.std.proofs.Common.{◌≡◌, ℕ, zero, suc, ◌+◌, ◌<◌, ◌≤◌, Bool, true, false, not, cond, ◌||◌, List, [], ◌∷◌, ◌++◌, map, length, Option, Some, None, codes, decimal}
-use Rattle.std.proofs.Common.{refl, sym, ap, ◌∙◌, subst, inl, arith}
+use Rattle.std.proofs.Common.{◌≡◌, ℕ, zero, suc, ◌+◌, ◌<◌, ◌≤◌, Bool, true, false, not, cond, ◌||◌, List, [], ◌∷◌, ◌++◌, map, length, Option, Some}
+use Rattle.std.proofs.Common.{None, codes, decimal, refl, sym, ap, ◌∙◌, subst, inl, arith}
 use Rattle.std.specs.Prelude.{slice_get}
 use Rattle.std.specs.List.{position, remove}
 use Rattle.std.specs.Option.{option_and_then}
@@ -35,8 +35,7 @@ use Rattle.step_run.specs.Steps.{Step, checked, checked_unless, first_phase, fir
 use Rattle.step_run.specs.Steps.{opened, poisoned, released, released_state, silent, turn, waited, with_new}
 use Rattle.step_run.specs.Valid.{Valid}
 use Rattle.step_run.specs.Checking.{ChecksAs, checked_met, checked_text, passed_met, passed_then, undeclared}
-use Rattle.step_run.specs.Lives.{IsOf, LiveSays, called_request, called_value, ended_with, is_held, is_none, may_poison, seen_live}
-use Rattle.step_run.specs.Lives.{with_value}
+use Rattle.step_run.specs.Lives.{IsOf, LiveSays, called_request, called_value, ended_with, is_held, is_none, may_poison, seen_live, with_value}
 use Rattle.step_run.specs.declared.live.Live.{Live}
 use Rattle.step_run.specs.Openings.{TurnsRange, begun_request, begun_value, opening_text, request_text}
 use Rattle.step_run.specs.Runs.{Fits, FitsName, FitsRequest, FitsTurns, FitsValue, IsSame, Makes, Pairs, RunSays, Stands, StandsBut}
@@ -123,8 +122,7 @@ pub stands_gone : (s : State) (r t : RunSays) (i : ℕ) (n : Named) (l : LiveSay
     slice_get s.names i ≡ Some n → FitsName n l → FitsValue s.history n phase v → IsOf r.board l.session v →
     t.log ≡ ended_with v r.log → t.lives ≡ remove r.lives i → Stands (released n s).state t
 stands_gone s r t i n l phase v e f h at k g o a b =
-    subst (λ p. Stands (record { history = (released_state p n s).history; names = without n.id (released_state p n s).names; line = (released_state p n s).line }) t)
-    (sym e) (by phase v e g o a)
+    subst Claim (sym e) (by phase v e g o a)
   where
     gone : (q : RequestView) (grant given : Grant) → q.id ≡ n.id → q.who ≡ l.session → q.cause ≡ n.cause → given ≡ grant →
         t.log ≡ r.log ++ Ended q.id q.who given q.cause no_fault ∷ [] →
@@ -135,7 +133,8 @@ stands_gone s r t i n l phase v e f h at k g o a b =
         (u ∙ ap (λ (y : Entry). r.log ++ y ∷ []) (ended_as x (y ∙ k.session) z w)))
 
     Claim : Phase → Type 0
-    Claim p = Stands (record { history = (released_state p n s).history; names = without n.id (released_state p n s).names; line = (released_state p n s).line }) t
+    Claim p =
+        let u = released_state p n s in Stands (record { history = u.history; names = without n.id u.names; line = u.line }) t
 
     by : (p : Phase) (v : Value) → n.phase ≡ p → FitsValue s.history n p v → IsOf r.board l.session v → t.log ≡ ended_with v r.log → Claim p
     by Optimistic (Optimist w) e f o a = gone w.r (passed_grant n.passed) (passed_grant w.passed) f.0.id o.1 f.0.cause (ap passed_grant f.1) a
@@ -177,7 +176,8 @@ none_or no_cause = refl
 none_or Called = refl
 none_or (From p) = refl
 
-called_fits : (h : List Entry) (n : Named) (r : RequestView) → FitsRequest h n r → FitsRequest h (record n { cause = first_cause n.cause Called }) (called_request r)
+called_fits : (h : List Entry) (n : Named) (r : RequestView) → FitsRequest h n r →
+    FitsRequest h (record n { cause = first_cause n.cause Called }) (called_request r)
 called_fits h n r f = record { id = f.id; policy = f.policy; latches = f.latches; shot = f.shot; cause = ap (λ c. first_cause c Called) f.cause }
 
 called_as : (h : List Entry) (n : Named) (phase : Phase) (v : Value) → FitsValue h n phase v →
@@ -217,11 +217,6 @@ may_as h n Over (Waiting w) f = absurd f
 may_as h n Over (GrantedValue g) f = absurd f
 may_as h n Over OverValue f = refl
 
-called_same : (c : Cause) (n : Named) → n.cause ≡ c → has_cause c ≡ true → (record n { cause = first_cause n.cause Called }) ≡ n
-called_same no_cause n e f = absurd (cc)
-called_same Called n e f = ap (λ c. let m : Named = record n { cause = c } in m) (ap (λ c. first_cause c Called) e ∙ sym e)
-called_same (From p) n e f = ap (λ c. let m : Named = record n { cause = c } in m) (ap (λ c. first_cause c Called) e ∙ sym e)
-
 over_called : (v : Value) → may_poison v ≡ false → called_value v ≡ v
 over_called (Optimist o) e = ap (λ c. Optimist (record o { r = record o.r { cause = c } })) (no_change o.r.cause e)
 over_called (Waiting w) e = ap (λ c. Waiting (record w { r = record w.r { cause = c } })) (no_change w.r.cause e)
@@ -239,7 +234,8 @@ pub makes_called : (s : State) (r t : RunSays) (i : ℕ) (n : Named) (l : LiveSa
     new ≡ out ++ named_line name (codes "poisons") → Makes (poisoned n s) t out new
 makes_called s r t i n l name out new h at there p a b e g =
     let k = pair_here (Fits s.history) s.names r.lives i n l h.names at there in
-    let free : (is_over n.phase || has_cause n.cause) ≡ false = not_true_of (is_over n.phase || has_cause n.cause) (sym (may_as s.history n n.phase l.value k.1) ∙ p) in
+    let free : (is_over n.phase || has_cause n.cause) ≡ false =
+    not_true_of (is_over n.phase || has_cause n.cause) (sym (may_as s.history n n.phase l.value k.1) ∙ p) in
     let m : Named = record n { cause = first_cause n.cause Called } in
     let got : first_cause n.cause Called ≡ Called = called_is n.cause (second (is_over n.phase) (has_cause n.cause) free) in
     subst (λ (x : Step). Makes x t out new)
@@ -269,7 +265,8 @@ pub makes_uncalled : (s : State) (r t : RunSays) (i : ℕ) (n : Named) (l : Live
     Makes (poisoned n s) t out out
 makes_uncalled s r t i n l out h at there p a b =
     let k = pair_here (Fits s.history) s.names r.lives i n l h.names at there in
-    let busy : (is_over n.phase || has_cause n.cause) ≡ true = true_of (is_over n.phase || has_cause n.cause) (sym (may_as s.history n n.phase l.value k.1) ∙ p) in
+    let busy : (is_over n.phase || has_cause n.cause) ≡ true =
+    true_of (is_over n.phase || has_cause n.cause) (sym (may_as s.history n n.phase l.value k.1) ∙ p) in
     subst (λ (x : Step). Makes x t out out)
     (sym (ap (λ y. cond y (silent s) (record { written = line n (codes "poisons"); state = with_name (record n { cause = Called }) s })) busy))
     (makes_silent s t out (stands_as s r t a (b ∙ ap (λ v. with_value i v r.lives) (over_called l.value p) ∙ value_kept r.lives i l there) h))
@@ -391,7 +388,8 @@ waits_optimistic i s r t n l o w h at there is f z a b =
     by Over e g = absurd (subst (λ x. FitsValue s.history n x (Optimist o)) e g)
 
 pub waits_pending : (i : ℕ) (s : State) (r t : RunSays) (n : Named) (l : LiveSays) (w : WaitingSays) → Stands s r →
-    slice_get s.names i ≡ Some n → slice_get r.lives i ≡ Some l → l.value ≡ Waiting w → t.log ≡ r.log → t.lives ≡ with_value i OverValue r.lives → WaitsAs i s n w t
+    slice_get s.names i ≡ Some n → slice_get r.lives i ≡ Some l → l.value ≡ Waiting w → t.log ≡ r.log → t.lives ≡ with_value i OverValue r.lives →
+    WaitsAs i s n w t
 waits_pending i s r t n l w h at there is a b =
     let k = pair_here (Fits s.history) s.names r.lives i n l h.names at there in
     by n.phase refl (subst (λ v. FitsValue s.history n n.phase v) is k.1)
@@ -424,7 +422,8 @@ pub waits_none : (i : ℕ) (s : State) (r t : RunSays) (n : Named) (l : LiveSays
     slice_get r.lives i ≡ Some l → l.value ≡ v → is_settled v ≡ true → t.log ≡ r.log → t.lives ≡ r.lives → Makes (waited n.phase n s) t out out
 waits_none i s r t n l v out h at there is g a b =
     let k = pair_here (Fits s.history) s.names r.lives i n l h.names at there in
-    subst (λ (x : Step). Makes x t out out) (sym (by n.phase v (subst (λ x. FitsValue s.history n n.phase x) is k.1) g)) (makes_silent s t out (stands_as s r t a b h))
+    subst (λ (x : Step). Makes x t out out) (sym (by n.phase v (subst (λ x. FitsValue s.history n n.phase x) is k.1) g))
+    (makes_silent s t out (stands_as s r t a b h))
   where
     by : (p : Phase) (v : Value) → FitsValue s.history n p v → is_settled v ≡ true → waited p n s ≡ silent s
     by Optimistic (Optimist o) f g = absurd (cc)
@@ -466,7 +465,8 @@ stands_begun s r t l table policy latches h range made e =
     let named : Named = new_name s l.session l.name l.mode policy l.turns in
     let id : ℕ = length (begins s.history) + 1 in
     let x : Entry = new_begin s l.session l.mode policy latches in
-    let new : latches_of (s.history ++ x ∷ []) id ≡ latches = latches_of_new s.history id (free_lane s.history) l.session l.mode request (h.valid.fresh id (omega arith)) in
+    let new : latches_of (s.history ++ x ∷ []) id ≡ latches =
+    latches_of_new s.history id (free_lane s.history) l.session l.mode request (h.valid.fresh id (omega arith)) in
     let fits : FitsRequest (s.history ++ x ∷ []) named (begun_request s.history l.session l.mode request) =
     record { id = refl; policy = refl; latches = sym new; shot = refl; cause = refl } in
     let value : FitsValue (s.history ++ x ∷ []) named (first_phase l.mode) (begun_value table l.mode (begun_request s.history l.session l.mode request)) =
@@ -485,7 +485,8 @@ stands_begun s r t l table policy latches h range made e =
     )
 
 -- the text of a request that has begun
-pub text_of : (h : List Entry) (n : Named) (q : RequestView) → FitsRequest h n q → request_text q ≡ decimal n.id ++ codes " before " ++ numbers_text (before h n.id)
+pub text_of : (h : List Entry) (n : Named) (q : RequestView) → FitsRequest h n q →
+    request_text q ≡ decimal n.id ++ codes " before " ++ numbers_text (before h n.id)
 text_of h n q f =
     let waits : waits_for q ≡ met h n.id (latches_of h n.id) = both f.shot f.latches in
     ap (λ k. decimal k ++ codes " before " ++ numbers_text (ascending (map (λ (x : HeldLatch). x.by) (waits_for q)))) f.id

@@ -93,10 +93,6 @@ all_before q (x ∷ xs) y ys e f =
     take_while-cons (λ x. not (q x)) x (xs ++ y ∷ ys)
     ∙ all_before_step q x xs (xs ++ y ∷ ys) (q x) e (λ k. all_before q xs y ys k f)
 
-pub in_front_new : (h : List Entry) (id lane who : ℕ) (mode : Mode) (request : Declaration) → has_begun h id ≡ false →
-    in_front (h ++ Begun id lane who mode request ∷ []) id ≡ h
-in_front_new h id lane who mode request e = all_before (is_begin id) h (Begun id lane who mode request) [] e (eq-eqb id id refl)
-
 -- what has begun in front has begun
 each_self : (bs : List Begin) → Each (λ b. list_any (λ c. c.id == b.id) bs ≡ true) bs
 each_self [] = tt

@@ -1,5 +1,6 @@
 -- What a waiting request that has heard the live names knows of the names of a state.
-use Rattle.std.proofs.Common.{◌≡◌, ◌≢◌, ℕ, zero, suc, ◌<◌, Bool, true, false, not, cond, ◌&&◌, ◌==◌, List, [], ◌∷◌, map, Some, refl, sym, ap, ◌∙◌, subst, inl, inr, arith}
+use Rattle.std.proofs.Common.{◌≡◌, ◌≢◌, ℕ, zero, suc, ◌<◌, Bool, true, false, not, cond, ◌&&◌, ◌==◌, List, [], ◌∷◌, map, Some, refl, sym, ap, ◌∙◌}
+use Rattle.std.proofs.Common.{subst, inl, inr, arith}
 use Rattle.std.specs.Prelude.{slice_get}
 use Rattle.std.specs.List.{Contains, filter, list_any}
 use Rattle.std.proofs.lemmas.Bool.{eq-eqb, eqb-true}
@@ -8,13 +9,14 @@ use Rattle.latch_model.specs.Histories.{has_begun, has_ended, open_begins}
 use Rattle.latch_model.specs.declared.history.Cause.{Cause}
 use Rattle.latch_model.specs.declared.history.Cause.TheVariants.{None as no_cause, Called, From}
 use Rattle.latch_model.specs.declared.history.Entry.{Entry}
-use Rattle.latch_model.proofs.Elements.{Each, list_any-map}
-use Rattle.latch_model.proofs.Lists.{In, list_any-In}
+use Rattle.latch_model.proofs.Ascending.{Rising}
+use Rattle.latch_model.proofs.Elements.{list_any-map}
+use Rattle.latch_model.proofs.Lists.{In, In-map, list_any-In}
 use Rattle.latch_model.proofs.Members.{filter_of-In, list_any_of}
 use Rattle.signal_board.specs.Views.{RequestView}
 use Rattle.step_run.specs.State.{Granted, Named, Optimistic, Over, Pending, Phase, is_poisoned_in}
 use Rattle.step_run.specs.Steps.{is_over}
-use Rattle.step_run.specs.Valid.{Brief, Rising, Valid, brief, brief_of, is_going}
+use Rattle.step_run.specs.Valid.{Brief, Valid, brief, brief_of, is_going}
 use Rattle.step_run.specs.Lives.{AreHeard, Heard, HeardOf, LiveSays}
 use Rattle.step_run.specs.Runs.{Fits, FitsName, FitsRequest, FitsValue, Pairs, PairsBut}
 use Rattle.step_run.specs.declared.live.Value.{Value}
@@ -44,18 +46,13 @@ open_name h ns id v b e =
     not_not false e = refl
 
 -- names with one number are one
-above : (x : ℕ) (ns : List Named) (n : Named) → Each (λ y. x < y) (map (λ (n : Named). n.id) ns) → In n ns → x < n.id
-above x [] n h k = absurd k
-above x (m ∷ ns) n h (inl e) = let same : m.id ≡ n.id = ap (λ (n : Named). n.id) e in omega (arith, h.0)
-above x (m ∷ ns) n h (inr k) = above x ns n h.1 k
-
 pub one_name : (ns : List Named) (a b : Named) → Rising (map (λ (n : Named). n.id) ns) → In a ns → In b ns → a.id ≡ b.id → a ≡ b
 one_name [] a b r h k e = absurd h
 one_name (n ∷ ns) a b r (inl x) (inl y) e = sym x ∙ y
 one_name (n ∷ ns) a b r (inl x) (inr y) e =
-    let l : n.id < b.id = above n.id ns b r.0 y in let same : n.id ≡ a.id = ap (λ (n : Named). n.id) x in absurd (omega arith)
+    let l : n.id < b.id = r.0 b.id (In-map (λ (n : Named). n.id) ns b y) in let same : n.id ≡ a.id = ap (λ (n : Named). n.id) x in absurd (omega arith)
 one_name (n ∷ ns) a b r (inr x) (inl y) e =
-    let l : n.id < a.id = above n.id ns a r.0 x in let same : n.id ≡ b.id = ap (λ (n : Named). n.id) y in absurd (omega arith)
+    let l : n.id < a.id = r.0 a.id (In-map (λ (n : Named). n.id) ns a x) in let same : n.id ≡ b.id = ap (λ (n : Named). n.id) y in absurd (omega arith)
 one_name (n ∷ ns) a b r (inr x) (inr y) e = one_name ns a b r.1 x y e
 
 -- causes
@@ -68,9 +65,6 @@ pub has_one : (c : Cause) → c ≢ no_cause → has_cause c ≡ true
 has_one no_cause f = absurd (f refl)
 has_one Called f = refl
 has_one (From p) f = refl
-
-poisoned_as : Named → ℕ → Bool
-poisoned_as n id = cond (n.id == id) (has_cause n.cause) false
 
 pub poisoned_name : (ns : List Named) (id : ℕ) → is_poisoned_in ns id ≡ true → (n : Named) × In n ns × (n.id ≡ id) × (has_cause n.cause ≡ true)
 poisoned_name ns id e =

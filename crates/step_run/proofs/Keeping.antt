@@ -46,9 +46,6 @@ but_here P Q (a ∷ xs) (b ∷ ys) zero x y h e f =
     let s : a ≡ x = cc in let t : b ≡ y = cc in subst (λ v. Q x v) t (subst (λ u. Q u b) s h.0)
 but_here P Q (a ∷ xs) (b ∷ ys) (suc i) x y h e f = but_here P Q xs ys i x y h.1 e f
 
-same_lists : {X : Type 0} {x y : X} {xs ys : List X} → x ∷ xs ≡ y ∷ ys → (x ≡ y) × (xs ≡ ys)
-same_lists e = (cc, cc)
-
 named_valued : (n : Named) (l : LiveSays) (v : Value) → FitsName n l → FitsName n (record l { value = v })
 named_valued n l v f = record { name = f.name; session = f.session; mode = f.mode; turns = f.turns }
 
@@ -156,7 +153,8 @@ pairs_removed P zero (x ∷ xs) (y ∷ ys) p = p.1
 pairs_removed P (suc i) (x ∷ xs) (y ∷ ys) p = (p.0, pairs_removed P i xs ys p.1)
 
 -- a pair is added
-pub pairs_pushed : {X Y : Type 0} (P : X → Y → Type 0) (xs : List X) (ys : List Y) (x : X) (y : Y) → Pairs P xs ys → P x y → Pairs P (xs ++ x ∷ []) (ys ++ y ∷ [])
+pub pairs_pushed : {X Y : Type 0} (P : X → Y → Type 0) (xs : List X) (ys : List Y) (x : X) (y : Y) → Pairs P xs ys → P x y →
+    Pairs P (xs ++ x ∷ []) (ys ++ y ∷ [])
 pairs_pushed P [] [] x y p q = (q, tt)
 pairs_pushed P [] (z ∷ ys) x y p q = absurd p
 pairs_pushed P (z ∷ xs) [] x y p q = absurd p

@@ -26,8 +26,13 @@ seen_get [] i x e l = absurd (omega arith)
 seen_get (y ∷ ys) zero x e l = ap (λ z. Some (seen_live z)) (sym e)
 seen_get (y ∷ ys) (suc i) x e l = seen_get ys i x e (omega arith)
 
-pub seen_at : (xs : List Live) (i : ℕ) (x : Live) (l : LiveSays) → slice_get (map seen_live xs) i ≡ Some l → x ≡ get_or xs i x → i < length xs → seen_live x ≡ l
-seen_at xs i x l a e lt = same (sym (seen_get xs i x e lt) ∙ a)
+pub inside_seen : (xs : List Live) (i : ℕ) (l : LiveSays) → slice_get (map seen_live xs) i ≡ Some l → i < length xs
+inside_seen [] i l e = absurd (cc)
+inside_seen (x ∷ xs) zero l e = omega arith
+inside_seen (x ∷ xs) (suc i) l e = let k : i < length xs = inside_seen xs i l e in omega arith
+
+pub seen_at : (xs : List Live) (i : ℕ) (x : Live) (l : LiveSays) → slice_get (map seen_live xs) i ≡ Some l → x ≡ get_or xs i x → seen_live x ≡ l
+seen_at xs i x l a e = same (sym (seen_get xs i x e (inside_seen xs i l a)) ∙ a)
   where
     same : Some (seen_live x) ≡ Some l → seen_live x ≡ l
     same e = cc

@@ -1,5 +1,6 @@
 -- Live names by their places, and what a turn does to the name that it is about.
-use Rattle.std.proofs.Common.{◌≡◌, ℕ, zero, suc, ◌+◌, ◌<◌, Bool, true, false, not, cond, ◌==◌, List, [], ◌∷◌, map, length, Option, Some, None, refl, sym, ap, ◌∙◌, arith}
+use Rattle.std.proofs.Common.{◌≡◌, ℕ, zero, suc, ◌+◌, ◌<◌, Bool, true, false, not, cond, ◌==◌, List, [], ◌∷◌, map, length, Option, Some, None, refl}
+use Rattle.std.proofs.Common.{sym, ap, ◌∙◌, arith}
 use Rattle.std.specs.Prelude.{slice_get, slice_set}
 use Rattle.std.specs.List.{filter, find, remove}
 use Rattle.std.proofs.lemmas.Bool.{eq-eqb, ne_eqb}
@@ -12,7 +13,7 @@ use Rattle.latch_model.specs.declared.latch.Policy.{Policy}
 use Rattle.latch_model.specs.declared.latch.Policy.TheVariants.{Wait as policy_wait, Error as policy_error}
 use Rattle.step_run.specs.State.{Granted, Named, Over, State, is_poisoned_in, replaced, without}
 use Rattle.step_run.specs.Steps.{by_poisoned, decided_by, granted, spent_turn, turn}
-use Rattle.step_run.specs.Valid.{Rising}
+use Rattle.latch_model.proofs.Ascending.{Rising}
 use Rattle.step_run.proofs.Places.{below_at}
 
 -- a name by its place
@@ -95,7 +96,8 @@ by_poisoned_set s i n x policy_error at r = replaced_set s.names i n (record n {
 
 granted_set : (s : State) (i : ℕ) (n : Named) (mode : Mode) → slice_get s.names i ≡ Some n → Rising (map (λ (n : Named). n.id) s.names) →
     IsSet s.names i n (granted mode n s).names
-granted_set s i n Acquire at r = replaced_set s.names i n (record n { phase = Granted (length s.history) }) at r (record { id = refl; name = refl; session = refl })
+granted_set s i n Acquire at r =
+    replaced_set s.names i n (record n { phase = Granted (length s.history) }) at r (record { id = refl; name = refl; session = refl })
 granted_set s i n optimistic_mode at r =
     replaced_set s.names i n (record n { phase = Granted (length s.history) }) at r (record { id = refl; name = refl; session = refl })
 granted_set s i n Look at r = replaced_set s.names i n (record n { phase = Over }) at r (record { id = refl; name = refl; session = refl })

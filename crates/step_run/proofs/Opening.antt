@@ -26,13 +26,15 @@ use Rattle.step_run.specs.Runs.{Makes, RunSays, Sound, Stands}
 use Rattle.step_run.specs.Texts.{counts_line, named_line}
 use Rattle.step_run.proofs.Commanding.{begun_text, makes_opened, makes_silent, new_at, stands_begun, text_of}
 
-pub first_waits : (s : State) (n : Named) (mode : Mode) → (mode ≡ Acquire) ⊎ (mode ≡ Look) → n.phase ≡ first_phase mode → waited n.phase n s ≡ first_turn mode n s
+pub first_waits : (s : State) (n : Named) (mode : Mode) → (mode ≡ Acquire) ⊎ (mode ≡ Look) → n.phase ≡ first_phase mode →
+    waited n.phase n s ≡ first_turn mode n s
 first_waits s n mode (inl e) f =
     ap (λ p. waited p n s) (f ∙ ap first_phase e) ∙ sym (ap (λ (m : Mode). first_turn m n s) e)
 first_waits s n mode (inr e) f =
     ap (λ p. waited p n s) (f ∙ ap first_phase e) ∙ sym (ap (λ (m : Mode). first_turn m n s) e)
 
-pub first_silent : (s : State) (n : Named) (mode : Mode) (r : RunSays) (out : List ℕ) → mode ≡ optimistic_mode → Stands s r → Makes (first_turn mode n s) r out out
+pub first_silent : (s : State) (n : Named) (mode : Mode) (r : RunSays) (out : List ℕ) → mode ≡ optimistic_mode → Stands s r →
+    Makes (first_turn mode n s) r out out
 first_silent s n mode r out e h = subst (λ (t : Step). Makes t r out out) (sym (ap (λ (m : Mode). first_turn m n s) e)) (makes_silent s r out h)
 
 -- An opening, from the begin of its request on.

@@ -1,22 +1,24 @@
 -- Lists with one element in a new form, or without it.
-use Rattle.std.proofs.Common.{◌≡◌, ℕ, zero, suc, ◌+◌, ◌<◌, ◌≤◌, Bool, true, false, not, cond, ◌==◌, List, [], ◌∷◌, ◌++◌, map, length, get_or, Option}
-use Rattle.std.proofs.Common.{Some, None, refl, sym, ap, ◌∙◌, arith}
+use Rattle.std.proofs.Common.{◌≡◌, ℕ, zero, suc, ◌+◌, ◌<◌, ◌≤◌, Bool, true, false, not, cond, ◌==◌, List, [], ◌∷◌, ◌++◌, map, length, Option}
+use Rattle.std.proofs.Common.{Some, None, refl, sym, ap, ◌∙◌, subst, inl, inr, arith}
 use Rattle.std.specs.Prelude.{nat_lt, slice_get, slice_set}
 use Rattle.std.specs.Option.{option_and_then}
 use Rattle.std.specs.List.{filter, find, position, position_or_len, remove}
-use Rattle.std.proofs.lemmas.Bool.{eq-eqb, le-ltb, lt-ltb, ltb-false, ne_eqb}
+use Rattle.std.proofs.lemmas.Bool.{eq-eqb, ltb-false, ne_eqb}
 use Rattle.std.proofs.lemmas.List.{length-map}
-use Rattle.std.proofs.lemmas.List.Sums.{position_or_len_is}
-use Rattle.step_run.specs.Valid.{Rising}
-use Rattle.latch_model.proofs.Elements.{Each, Each-map, filter_no, filter_yes, Each-filter}
+use Rattle.latch_model.proofs.Ascending.{Rising}
+use Rattle.latch_model.proofs.Elements.{Each, Each-filter, Each-from_In, Each-map, filter_no, filter_yes}
+use Rattle.latch_model.proofs.Lists.{In, In-map}
 
 pub Rising-push : (xs : List ℕ) (y : ℕ) → Rising xs → Each (λ x. x < y) xs → Rising (xs ++ y ∷ [])
-Rising-push [] y r e = (tt, tt)
-Rising-push (x ∷ xs) y r e = (push (λ z. x < z) xs y r.0 e.0, Rising-push xs y r.1 e.1)
+Rising-push [] y r e = (λ m none. absurd none, tt)
+Rising-push (x ∷ xs) y r e = (λ m there. above x xs y m r.0 e.0 there, Rising-push xs y r.1 e.1)
   where
-    push : (P : ℕ → Type 0) (xs : List ℕ) (y : ℕ) → Each P xs → P y → Each P (xs ++ y ∷ [])
-    push P [] y e p = (p, tt)
-    push P (x ∷ xs) y e p = (e.0, push P xs y e.1 p)
+    above : (x : ℕ) (xs : List ℕ) (y m : ℕ) → ((k : ℕ) → In k xs → x < k) → x < y → In m (xs ++ y ∷ []) → x < m
+    above x [] y m f l (inl e) = subst (λ k. x < k) e l
+    above x [] y m f l (inr none) = absurd none
+    above x (z ∷ zs) y m f l (inl e) = f m (inl e)
+    above x (z ∷ zs) y m f l (inr there) = above x zs y m (λ k h. f k (inr h)) l there
 
 -- a place
 pub Each-at : {X : Type 0} (P : X → Type 0) (xs : List X) (i : ℕ) (x : X) → slice_get xs i ≡ Some x → Each P xs → P x
@@ -110,26 +112,24 @@ pub Rising-remove : {X : Type 0} (f : X → ℕ) (xs : List X) (i : ℕ) → Ris
 Rising-remove f [] zero r = tt
 Rising-remove f [] (suc i) r = tt
 Rising-remove f (x ∷ xs) zero r = r.1
-Rising-remove f (x ∷ xs) (suc i) r = (still (λ y. f x < y) f xs i r.0, Rising-remove f xs i r.1)
+Rising-remove f (x ∷ xs) (suc i) r = (λ m there. r.0 m (still f xs i m there), Rising-remove f xs i r.1)
   where
-    still : {X : Type 0} (P : ℕ → Type 0) (f : X → ℕ) (xs : List X) (i : ℕ) → Each P (map f xs) → Each P (map f (remove xs i))
-    still P f [] zero h = tt
-    still P f [] (suc i) h = tt
-    still P f (x ∷ xs) zero h = h.1
-    still P f (x ∷ xs) (suc i) h = (h.0, still P f xs i h.1)
+    still : {X : Type 0} (f : X → ℕ) (xs : List X) (i m : ℕ) → In m (map f (remove xs i)) → In m (map f xs)
+    still f [] zero m h = h
+    still f [] (suc i) m h = h
+    still f (x ∷ xs) zero m h = inr h
+    still f (x ∷ xs) (suc i) m (inl e) = inl e
+    still f (x ∷ xs) (suc i) m (inr there) = inr (still f xs i m there)
 
-each_mapped : {X : Type 0} (P : ℕ → Type 0) (f : X → ℕ) (xs : List X) → Each P (map f xs) → Each (λ x. P (f x)) xs
-each_mapped P f [] h = tt
-each_mapped P f (x ∷ xs) h = (h.0, each_mapped P f xs h.1)
+others : {X : Type 0} (f : X → ℕ) (n : ℕ) (xs : List X) → ((m : ℕ) → In m (map f xs) → n < m) → Each (λ x. (n == f x) ≡ false) xs
+others f n xs h =
+    Each-from_In (λ x. (n == f x) ≡ false) xs (λ x there. ne_eqb n (f x) (λ e. let l : n < f x = h (f x) (In-map f xs x there) in absurd (omega arith)))
 
-pub others : {X : Type 0} (f : X → ℕ) (n : ℕ) (xs : List X) → Each (λ y. n < y) (map f xs) → Each (λ x. (n == f x) ≡ false) xs
-others f n [] h = tt
-others f n (x ∷ xs) h = (ne_eqb n (f x) (λ e. absurd (omega arith)), others f n xs h.1)
-
-pub below_at : {X : Type 0} (f : X → ℕ) (n : ℕ) (xs : List X) (i : ℕ) (x : X) → slice_get xs i ≡ Some x → Each (λ y. n < y) (map f xs) → n < f x
+pub below_at : {X : Type 0} (f : X → ℕ) (n : ℕ) (xs : List X) (i : ℕ) (x : X) → slice_get xs i ≡ Some x → ((m : ℕ) → In m (map f xs) → n < m) →
+    n < f x
 below_at f n [] i x e h = absurd (cc)
-below_at f n (z ∷ zs) zero x e h = let g : f z ≡ f x = ap f (cc) in omega (arith, h.0)
-below_at f n (z ∷ zs) (suc i) x e h = below_at f n zs i x e h.1
+below_at f n (z ∷ zs) zero x e h = let g : f z ≡ f x = ap f (cc) in h (f x) (inl g)
+below_at f n (z ∷ zs) (suc i) x e h = below_at f n zs i x e (λ m there. h m (inr there))
 
 filter_all : {X : Type 0} (p : X → Bool) (xs : List X) → Each (λ x. p x ≡ true) xs → filter p xs ≡ xs
 filter_all p [] h = refl
@@ -151,9 +151,9 @@ keep_step q z xs ys false g e = e
 pub filter_over : {X : Type 0} (f : X → ℕ) (p : X → Bool) (xs : List X) (i : ℕ) (x y : X) → slice_get xs i ≡ Some x → Rising (map f xs) →
     p y ≡ false → filter p (slice_set xs i y) ≡ filter (λ z. not (f x == f z)) (filter p xs)
 filter_over f p [] i x y e r q = absurd (cc)
-filter_over f p (z ∷ zs) zero x y e r q =
+filter_over {X} f p (z ∷ zs) zero x y e r q =
     let g : z ≡ x = cc in
-    let low : Each (λ u. f x < u) (map f zs) = rw (← g) r.0 in
+    let low : (m : ℕ) → In m (map f zs) → f x < m = subst (λ (u : X). (m : ℕ) → In m (map f zs) → f u < m) g r.0 in
     filter_no p y zs q
     ∙ sym (drop_self f (f x) z (filter p zs) (p z) (ap f g) (Each-filter (λ u. (f x == f u) ≡ false) p zs (others f (f x) zs low)))
 filter_over f p (z ∷ zs) (suc i) x y e r q =
@@ -197,17 +197,3 @@ position_map f p xs =
     let a : position_or_len p (map f xs) ≡ position_or_len (λ x. p (f x)) xs = prefix_map f p xs in
     let l : length (map f xs) ≡ length xs = length-map xs f in
     cc
-
-pub position_found : {X : Type 0} (q : X → Bool) (xs : List X) (i : ℕ) (d : X) → i < length xs → ((k : ℕ) → k < i → q (get_or xs k d) ≡ false) →
-    q (get_or xs i d) ≡ true → position q xs ≡ Some i
-position_found q xs i d l f t =
-    let e : position_or_len q xs ≡ i = position_or_len_is q xs i d (omega arith) f (λ h. t) in
-    ap (λ n. cond (nat_lt n (length xs)) (Some n) None) e ∙ ap (λ b. cond b (Some i) None) (lt-ltb i (length xs) l)
-
-pub position_none : {X : Type 0} (q : X → Bool) (xs : List X) → ((k : ℕ) (d : X) → k < length xs → q (get_or xs k d) ≡ false) → position q xs ≡ None
-position_none q [] f = refl
-position_none q (x ∷ xs) f =
-    let e : position_or_len q (x ∷ xs) ≡ length (x ∷ xs) = position_or_len_is q (x ∷ xs) (length (x ∷ xs)) x (omega arith) (λ k l. f k x l)
-    (λ h. absurd (omega arith)) in
-    ap (λ n. cond (nat_lt n (length (x ∷ xs))) (Some n) None) e ∙ ap (λ b. cond b (Some (length (x ∷ xs))) None)
-    (le-ltb (length (x ∷ xs)) (length (x ∷ xs)) (omega arith))

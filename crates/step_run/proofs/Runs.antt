@@ -1,6 +1,6 @@
 -- The commands of a script one after another, and what its rules say of the states that they reach.
-use Rattle.std.proofs.Common.{◌≡◌, ◌≢◌, ℕ, zero, suc, ◌+◌, ◌<◌, Bool, true, false, not, cond, ◌||◌, ◌==◌, List, [], ◌∷◌, ◌++◌, length, map, take, get_or, Option, Some, None, codes}
-use Rattle.std.proofs.Common.{refl, sym, ap, ◌∙◌, subst, arith}
+use Rattle.std.proofs.Common.{◌≡◌, ◌≢◌, ℕ, zero, suc, ◌+◌, ◌<◌, Bool, true, false, not, cond, ◌||◌, ◌==◌, List, [], ◌∷◌, ◌++◌, length, map, take}
+use Rattle.std.proofs.Common.{get_or, Option, Some, None, codes, refl, sym, ap, ◌∙◌, subst, arith}
 use Rattle.std.specs.Prelude.{slice_get, slice_set}
 use Rattle.std.specs.List.{filter, find, position, remove}
 use Rattle.std.proofs.lemmas.List.{append-nil, append_assoc, length-append, take_more}
@@ -22,12 +22,13 @@ use Rattle.script.specs.declared.command.Command.{Command}
 use Rattle.script.specs.declared.command.Command.TheVariants.{Begin as Open, Wait, Check, Poison, Release, Metrics}
 use Rattle.script.proofs.Busy.{same_is}
 use Rattle.step_run.specs.State.{Granted, Named, Optimistic, Over, Pending, Phase, State, ended, is_poisoned_in, replaced, start, with_name, without}
-use Rattle.step_run.specs.Steps.{Step, after, checked, checked_unless, first_phase, first_turn, is_over, line, met_first, new_begin, new_name, next_line, on_found}
-use Rattle.step_run.specs.Steps.{by_poisoned, decided_by, granted, spent_turn, spread_to}
+use Rattle.step_run.specs.Steps.{Step, after, checked, checked_unless, first_phase, first_turn, is_over, line, met_first, new_begin, new_name}
+use Rattle.step_run.specs.Steps.{next_line, on_found, by_poisoned, decided_by, granted, spent_turn, spread_to}
 use Rattle.step_run.specs.Steps.{on_name, one, opening, poisoned, released, released_state, run, silent, turn, waited, with_new}
-use Rattle.step_run.specs.Valid.{Rising, Valid}
+use Rattle.step_run.specs.Valid.{Valid}
 use Rattle.std.specs.Option.{option_and_then}
 use Rattle.std.proofs.lemmas.Bool.{ne_eqb}
+use Rattle.latch_model.proofs.Ascending.{Rising}
 use Rattle.latch_model.proofs.Elements.{Each}
 use Rattle.latch_model.proofs.Members.{get_below}
 use Rattle.script.specs.Commands.{some_live}
@@ -44,8 +45,8 @@ use Rattle.step_run.proofs.Growing.{latches_of_new}
 use Rattle.step_run.proofs.Names.{found_at, replaced_at, replaced_set, turn_set, without_at}
 use Rattle.step_run.proofs.Places.{Each-at, find_by_place, get-set, get_push, map-set_same, remove-set}
 use Rattle.step_run.proofs.Standing.{valid_begin}
-use Rattle.step_run.proofs.Tracking.{Tracked, Tracks, checkable_name, free_name, live_name, no_check_left, no_name_left, no_name_of, start_tracks, tracks_formed, tracks_missed, tracks_open, tracks_release}
-use Rattle.step_run.proofs.Tracking.{tracks_still, used_name}
+use Rattle.step_run.proofs.Tracking.{Tracked, Tracks, checkable_name, free_name, live_name, no_check_left, no_name_left, no_name_of, start_tracks}
+use Rattle.step_run.proofs.Tracking.{tracks_formed, tracks_missed, tracks_open, tracks_release, tracks_still, used_name}
 
 -- the state to which commands come, and what they have written
 abbrev pub reached : List Command → State
@@ -131,7 +132,8 @@ gone_tracks cs s i n name grant at v t =
     let rising : Rising (map (λ (n : Named). n.id) (slice_set s.names i over)) =
     subst Rising (sym (map-set_same (λ (n : Named). n.id) s.names i n over at refl)) v.rising in
     let same : without n.id (replaced over s.names) ≡ remove s.names i =
-    ap (λ (xs : List Named). without n.id xs) is ∙ without_at (slice_set s.names i over) i over (get-set s.names i n over at) rising ∙ remove-set s.names i over in
+    ap (λ (xs : List Named). without n.id xs) is ∙ without_at (slice_set s.names i over) i over (get-set s.names i n over at) rising
+    ∙ remove-set s.names i over in
     subst (λ ns. Tracks cs ns) (sym same) t
 
 released_tracks : (cs : List Command) (s : State) (i : ℕ) (n : Named) (name : List ℕ) (phase : Phase) → slice_get s.names i ≡ Some n → Valid s.history s.names →
@@ -215,7 +217,8 @@ one_tracks s cs (Wait name) v e t =
 one_tracks s cs (Check name latches) v e t =
     let all : Tracks (cs ++ Check name latches ∷ []) s.names = tracks_still cs (Check name latches) s.names (λ q. refl) (λ q. refl) t in
     named_tracks cs (Check name latches) s name (λ n. checked n s latches) all
-    (λ i n at same. checked_tracks (cs ++ Check name latches ∷ []) s i n latches (position (λ l. not (is_declared (latches_of s.history n.id) l)) latches) at v all)
+    (λ i n at same.
+    checked_tracks (cs ++ Check name latches ∷ []) s i n latches (position (λ l. not (is_declared (latches_of s.history n.id) l)) latches) at v all)
 one_tracks s cs (Poison name) v e t =
     let all : Tracks (cs ++ Poison name ∷ []) s.names = tracks_still cs (Poison name) s.names (λ q. refl) (λ q. refl) t in
     named_tracks cs (Poison name) s name (λ n. poisoned n s) all
@@ -303,7 +306,8 @@ named_line_kept s name f g = by (find (λ (n : Named). same_name n.name name) s.
 
 one_line : (s : State) (c : Command) → (one s c).state.line ≡ s.line
 one_line s (Open session name mode policy turns latches) =
-    first_line (with_new (new_begin s session mode policy latches) (new_name s session name mode policy turns) s) (new_name s session name mode policy turns) mode
+    first_line (with_new (new_begin s session mode policy latches) (new_name s session name mode policy turns) s)
+    (new_name s session name mode policy turns) mode
 one_line s (Wait name) = named_line_kept s name (λ n. waited n.phase n s) (λ n. waited_line s n n.phase)
 one_line s (Check name latches) = named_line_kept s name (λ n. checked n s latches)
     (λ n. checked_line s n latches (position (λ l. not (is_declared (latches_of s.history n.id) l)) latches))
@@ -371,7 +375,8 @@ checks_optimist cs name latches r e s h t i l place at =
     within (x ∷ xs) zero e = omega arith
     within (x ∷ xs) (suc j) e = let k : j < length xs = within xs j e in omega arith
 
-pub allowed_at : (cs : List Command) (c : Command) (r : RunSays) (out : List ℕ) → IsCommand c → rule_cause cs c ≡ None → StandsAfter cs r out → Allowed c r.lives
+pub allowed_at : (cs : List Command) (c : Command) (r : RunSays) (out : List ℕ) → IsCommand c → rule_cause cs c ≡ None → StandsAfter cs r out →
+    Allowed c r.lives
 allowed_at cs (Open session name mode policy turns latches) r out k e s = (
   has_none (reached cs).history (reached cs).names r.lives session s.stands.names
       (no_name_of cs (reached cs).names session (free_name cs session name mode policy turns latches e).0 s.tracks),

@@ -235,7 +235,8 @@ sound_push r l ls k held e h =
     (λ j z d o. by j (has_open j r.lives) (l.session == j) refl refl (sym (open_pushed j r.lives l) ∙ ap (λ (xs : List LiveSays). has_open j xs) (sym e) ∙ o))
     (subst (λ (xs : List LiveSays). Each (IsLive r.board) xs) (sym e) (Each-append (IsLive r.board) r.lives (l ∷ []) h.lives (k, tt))) h
   where
-    by : (j : ℕ) (a b : Bool) → has_open j r.lives ≡ a → (l.session == j) ≡ b → (has_open j r.lives || (((l.session == j) && is_held l.value) || false)) ≡ false →
+    by : (j : ℕ) (a b : Bool) → has_open j r.lives ≡ a → (l.session == j) ≡ b →
+        (has_open j r.lives || (((l.session == j) && is_held l.value) || false)) ≡ false →
         (j ≢ l.session) × (has_open j r.lives ≡ false)
     by j true b f g o = absurd (cc)
     by j false true f g o = absurd (shows (has_open j r.lives) (l.session == j) (is_held l.value) g held o)

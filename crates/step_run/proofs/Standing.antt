@@ -16,22 +16,13 @@ use Rattle.latch_model.specs.declared.history.Fault.{Fault}
 use Rattle.latch_model.specs.declared.history.Grant.{Grant}
 use Rattle.step_run.specs.State.{Named, Over}
 use Rattle.step_run.specs.Steps.{is_over}
-use Rattle.step_run.specs.Valid.{Brief, Rising, Valid, brief, brief_of, is_going}
+use Rattle.step_run.specs.Valid.{Brief, Valid, brief, brief_of, is_going}
+use Rattle.latch_model.proofs.Ascending.{Rising}
 use Rattle.latch_model.proofs.Elements.{Each, Each-at_map, Each-filter, Each-map, filter-map, filter_yes, map_agree}
 use Rattle.latch_model.proofs.Growing.{begins-append, begins-end}
 use Rattle.step_run.proofs.Growing.{has_begun-append, has_ended-append, latches_of-append, open_begins_begun, open_begins_ended, begins_self}
 use Rattle.step_run.proofs.Places.{Each-at, Each-remove, Each-set, Rising-push, Rising-remove, filter-remove, filter_over, map-filter-set}
 use Rattle.step_run.proofs.Places.{map-set_same}
-
-pub start_valid : Valid [] []
-start_valid = record {
-  fresh = λ j k. refl;
-  unended = λ j k. refl;
-  begun = tt;
-  rising = tt;
-  rising_begins = tt;
-  going = refl;
-}
 
 -- A name may be changed in what no begin says.
 pub record IsAlike (n m : Named) : Type 0 where

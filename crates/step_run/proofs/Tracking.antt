@@ -1,7 +1,7 @@
 -- What the rules of scripts say of the live names of a run: each was opened by its session and not released since, no two are called the
 -- same, and one that can be checked is optimistic.
-use Rattle.std.proofs.Common.{◌≡◌, ◌≢◌, ℕ, zero, suc, Bool, true, false, not, cond, ◌&&◌, ◌||◌, ◌==◌, List, [], ◌∷◌, ◌++◌, map, Option, Some, None, refl, sym, ap, ◌∙◌}
-use Rattle.std.proofs.Common.{subst}
+use Rattle.std.proofs.Common.{◌≡◌, ◌≢◌, ℕ, zero, suc, Bool, true, false, not, cond, ◌&&◌, ◌||◌, ◌==◌, List, [], ◌∷◌, ◌++◌, map, Option, Some, None}
+use Rattle.std.proofs.Common.{refl, sym, ap, ◌∙◌, subst}
 use Rattle.std.specs.Prelude.{slice_get, slice_set}
 use Rattle.std.specs.List.{find, list_any, remove}
 use Rattle.std.proofs.lemmas.Bool.{eq-eqb, or_left, or_right}
@@ -50,11 +50,6 @@ or_none false false e f = refl
 or_first : (a b : Bool) → a ≡ true → (a || b) ≡ true
 or_first true b e = refl
 or_first false b e = absurd (cc)
-
-or_back : (a b : Bool) → b ≡ false → (a || (b || false)) ≡ true → a ≡ true
-or_back true b e f = refl
-or_back false true e f = absurd (cc)
-or_back false false e f = f
 
 check_back : (a o b w : Bool) → o ≡ false → ((a || (o || false)) && not (b || (w || false))) ≡ true → (a && not b) ≡ true
 check_back true o true w e f = f
@@ -108,7 +103,9 @@ carry cs c n r o t = record {
 released_push : (cs : List Command) (c : Command) → ((q : List ℕ) → releases q c ≡ true → list_any (opens q) cs ≡ true) →
     ((q : List ℕ) → list_any (releases q) cs ≡ true → list_any (opens q) cs ≡ true) → (q : List ℕ) → list_any (releases q) (cs ++ c ∷ []) ≡ true →
     list_any (opens q) (cs ++ c ∷ []) ≡ true
-released_push cs c f g q e = any_push (opens q) cs c ∙ or_first _ _ (by (list_any (releases q) cs) (releases q c) refl refl (sym (any_push (releases q) cs c) ∙ e))
+released_push cs c f g q e =
+    any_push (opens q) cs c
+    ∙ or_first _ _ (by (list_any (releases q) cs) (releases q c) refl refl (sym (any_push (releases q) cs c) ∙ e))
   where
     by : (a b : Bool) → list_any (releases q) cs ≡ a → releases q c ≡ b → (a || (b || false)) ≡ true → list_any (opens q) cs ≡ true
     by true b h k l = g q h
@@ -247,7 +244,8 @@ tracks_open cs ns n mode policy turns latches fresh phase t =
     record {
       each = Each-append (Tracked (cs ++ c ∷ [])) ns (n ∷ [])
           (each_pair (λ (m : Named). m.name ≢ n.name) (Tracked cs) (Tracked (cs ++ c ∷ []))
-          (λ m f k. carry cs c m refl (optimistic_as n.session n.name m.name mode policy turns latches (not_same n.name m.name (λ e. f (sym e)))) k) ns others t.each) (
+          (λ m f k. carry cs c m refl (optimistic_as n.session n.name m.name mode policy turns latches (not_same n.name m.name (λ e. f (sym e)))) k)
+          ns others t.each) (
             record {
               opened = any_push (opens_for n.session n.name) cs c ∙ or_right (list_any (opens_for n.session n.name) cs) _
                   (or_left _ false (both_are _ _ (eq-eqb n.session n.session refl) (same_self n.name)));
@@ -361,14 +359,6 @@ no_check_left cs name q same e =
     check_ended (list_any (opens_optimistic q) (cs ++ Wait name ∷ [])) (list_any (waits_for q) cs) (same_name name q)
     (ap (λ a. same_name name a) same ∙ same_self name)
     (ap (λ a. list_any (opens_optimistic q) (cs ++ Wait name ∷ []) && not a) (sym (any_push (waits_for q) cs (Wait name))) ∙ e)
-
-pub checkable_still : (cs : List Command) (c : Command) (q : List ℕ) → opens_optimistic q c ≡ false → is_checkable (cs ++ c ∷ []) q ≡ true → is_checkable cs q ≡ true
-checkable_still cs c q o e =
-    check_back (list_any (opens_optimistic q) cs) (opens_optimistic q c) (list_any (waits_for q) cs) (waits_for q c) o
-    (sym (both_ways (any_push (opens_optimistic q) cs c) (any_push (waits_for q) cs c)) ∙ e)
-  where
-    both_ways : {a b x y : Bool} → a ≡ b → x ≡ y → (a && not x) ≡ (b && not y)
-    both_ways e f = cc
 
 -- A release of a name that isn't there.
 missed : (ns : List Named) (name : List ℕ) → find (λ (n : Named). same_name n.name name) ns ≡ None → Each (λ (n : Named). same_name name n.name ≡ false) ns

@@ -1,5 +1,6 @@
 -- What the functions of a turn do to a run is what the definition's turn does to a state.
-use Rattle.std.proofs.Common.{◌≡◌, ℕ, ◌+◌, ◌-◌, ◌^◌, ◌<◌, Bool, true, false, not, cond, ◌&&◌, List, [], ◌∷◌, ◌++◌, length, Option, Some, None, codes, decimal, zero, suc, map, ◌⊎◌, inl, inr, refl, sym, ap, ◌∙◌, subst, arith}
+use Rattle.std.proofs.Common.{◌≡◌, ℕ, ◌+◌, ◌-◌, ◌^◌, ◌<◌, Bool, true, false, not, cond, ◌&&◌, List, [], ◌∷◌, ◌++◌, length, Option, Some, None, codes}
+use Rattle.std.proofs.Common.{decimal, ◌⊎◌, inl, inr, refl, sym, ap, ◌∙◌, subst, arith}
 use Rattle.std.specs.Prelude.{min, slice_get}
 use Rattle.std.proofs.lemmas.Bool.{eq-eqb, ne_eqb}
 use Rattle.std.proofs.lemmas.List.{append-nil, append_assoc}
@@ -25,9 +26,8 @@ use Rattle.step_run.specs.State.{Granted, Named, Pending, State, ended, is_poiso
 use Rattle.step_run.specs.Steps.{Step, after, blocked, by_poisoned, counted_turn, decided_by, granted, is_over, line, spent_turn, spread_to, turn}
 use Rattle.step_run.specs.Texts.{met_text, named_line, spread_text}
 use Rattle.sequence_core.specs.Says.{DeskState}
-use Rattle.step_run.specs.Lives.{LiveSays, is_none, seen_live, with_value}
+use Rattle.step_run.specs.Lives.{LiveSays, is_none, with_value}
 use Rattle.step_run.specs.Seen.{seen_run}
-use Rattle.step_run.specs.declared.live.Live.{Live}
 use Rattle.step_run.specs.declared.run.StepRun.{StepRun}
 use Rattle.step_run.specs.Runs.{AskedBlocked, AskedPoisoned, AskedReady, Fits, FitsName, FitsRequest, FitsTurns, HasCounted, HasTurns, IsLent, IsSame, Makes}
 use Rattle.step_run.specs.Runs.{FitsValue, Pairs, PairsBut, RunSays, Stands, StandsBut, spread_if}
@@ -71,8 +71,8 @@ stands_ended i s r t n m q grant fault h at k same f e g =
 
 -- A granted request is put back, or ends where it is a look.
 pub stands_granted : (i who : ℕ) (s : State) (r t : RunSays) (n : Named) (g : GrantedSays) → StandsBut i s r → slice_get s.names i ≡ Some n →
-    is_over n.phase ≡ false → FitsRequest s.history n g.r → g.grant ≡ Waited (length s.history) → t.log ≡ r.log → t.lives ≡ with_value i (GrantedValue g) r.lives →
-    Stands (with_name (record n { phase = Granted (length s.history) }) s) t
+    is_over n.phase ≡ false → FitsRequest s.history n g.r → g.grant ≡ Waited (length s.history) → t.log ≡ r.log →
+    t.lives ≡ with_value i (GrantedValue g) r.lives → Stands (with_name (record n { phase = Granted (length s.history) }) s) t
 stands_granted i who s r t n g h at o f e a b =
     let m : Named = record n { phase = Granted (length s.history) } in
     stands_as (with_name m s) (record r { lives = t.lives }) t a refl
@@ -151,7 +151,8 @@ spread_same n true p = by (has_cause n.cause) refl
     by false e = subst (λ (m : Named). IsSame n m) (sym (ap (λ d. cond d n (record n { cause = From p })) e))
         (record { id = refl; name = refl; session = refl; mode = refl; turns = refl })
 
-pub spread_counted : (n : Named) (b : Bool) (p : ℕ) → ((spread_if b n p).counted ≡ n.counted) × ((spread_if b n p).phase ≡ n.phase) × ((spread_if b n p).turns ≡ n.turns)
+pub spread_counted : (n : Named) (b : Bool) (p : ℕ) →
+    ((spread_if b n p).counted ≡ n.counted) × ((spread_if b n p).phase ≡ n.phase) × ((spread_if b n p).turns ≡ n.turns)
 spread_counted n false p = (refl, refl, refl)
 spread_counted n true p = by (has_cause n.cause) refl
   where
@@ -189,7 +190,7 @@ spreads_now n true p q h f = by n.cause refl
 pub makes_blocked : (s : State) (n : Named) (by : ℕ) (old w : WaitingSays) (t : RunSays) (name out mid new : List ℕ) (spreads : Bool) →
     (a : AskedBlocked s n by old w) → name ≡ n.name → spreads ≡ (is_poisoned_in s.names a.latch.by && not (has_cause n.cause)) →
     mid ≡ out ++ (spread_text spreads name by ++ named_line name (met_text (codes "blocked ") a.latch)) →
-    Makes (spent_turn (spread_if (is_poisoned_in s.names a.latch.by) n a.latch.by) s (spread_if (is_poisoned_in s.names a.latch.by) n a.latch.by).turns) t mid new →
+    (let m : Named = spread_if (is_poisoned_in s.names a.latch.by) n a.latch.by in Makes (spent_turn m s m.turns) t mid new) →
     Makes (turn n s) t out new
 makes_blocked s n by old w t name out mid new spreads a e f g h =
     subst (λ (x : Step). Makes x t out new) (sym (ap (decided_by n s) a.first)) (cases (is_poisoned_in s.names a.latch.by) refl)
@@ -229,7 +230,7 @@ makes_blocked s n by old w t name out mid new spreads a e f g h =
 -- Turns are counted.
 pub counted_poll : (m : Named) (o : Option ℕ) (old new : ℕ) → FitsTurns o m.counted old → new ≡ min (old + 1) (2 ^ 64 - 1) → HasCounted o m.counted new
 counted_poll m None old new f e = tt
-counted_poll m (Some turns) old new f e = (let a : old ≡ m.counted = f.same in let b : m.counted < turns = f.left in let c : turns < 2 ^ 32 = f.few in omega (arith, e), f.left, f.few)
+counted_poll m (Some turns) old new f e = (omega (arith, e, f.same, f.left, f.few), f.left, f.few)
 
 pub makes_uncounted : (i : ℕ) (s : State) (r t : RunSays) (n m : Named) (w : WaitingSays) (out : List ℕ) → StandsBut i s r → slice_get s.names i ≡ Some n →
     is_over n.phase ≡ false → IsSame n m → m.phase ≡ Pending → FitsRequest s.history m w.r → m.turns ≡ None → t.log ≡ r.log →
@@ -242,8 +243,9 @@ makes_uncounted i s r t n m w out h at o same p f e a b =
           (subst (λ k. FitsValue s.history m k (Waiting w)) (sym p) (f, subst (λ k. FitsTurns k m.counted w.turns) (sym e) tt)) b);
     })
 
-pub makes_counted : (i : ℕ) (s : State) (r t : RunSays) (n m : Named) (w : WaitingSays) (turns : ℕ) (out : List ℕ) → StandsBut i s r → slice_get s.names i ≡ Some n →
-    is_over n.phase ≡ false → IsSame n m → m.phase ≡ Pending → FitsRequest s.history m w.r → m.turns ≡ Some turns → HasCounted m.turns m.counted w.turns →
+pub makes_counted : (i : ℕ) (s : State) (r t : RunSays) (n m : Named) (w : WaitingSays) (turns : ℕ) (out : List ℕ) → StandsBut i s r →
+    slice_get s.names i ≡ Some n → is_over n.phase ≡ false → IsSame n m → m.phase ≡ Pending → FitsRequest s.history m w.r →
+    m.turns ≡ Some turns → HasCounted m.turns m.counted w.turns →
     (w.turns ≡ turns → ⊥) → t.log ≡ r.log → t.lives ≡ with_value i (Waiting w) r.lives → Makes (counted_turn m s turns) t out out
 makes_counted i s r t n m w turns out h at o same p f e k d a b =
     let c : (w.turns ≡ m.counted + 1) × (m.counted < turns) × (turns < 2 ^ 32) = subst (λ q. HasCounted q m.counted w.turns) e k in
@@ -290,15 +292,6 @@ pub not_none : (c : Cause) → not (is_none c) ≡ has_cause c
 not_none no_cause = refl
 not_none Called = refl
 not_none (From p) = refl
-
--- a live name at a place is one
-pub same_live : (ls : List LiveSays) (i : ℕ) (a b : LiveSays) → slice_get ls i ≡ Some a → slice_get ls i ≡ Some b → a ≡ b
-same_live ls i a b e f = cc
-
-pub inside_lent : (xs : List Live) (i : ℕ) (l : LiveSays) → slice_get (map seen_live xs) i ≡ Some l → i < length xs
-inside_lent [] i l e = absurd (cc)
-inside_lent (x ∷ xs) zero l e = omega arith
-inside_lent (x ∷ xs) (suc i) l e = let k : i < length xs = inside_lent xs i l e in omega arith
 
 pub seen_desk : (run : StepRun) (desk : DeskState) → desk ≡ run.desk → seen_run (record run { desk = desk }) ≡ seen_run run
 seen_desk run desk e = ap (λ (d : DeskState). seen_run (record run { desk = d })) e

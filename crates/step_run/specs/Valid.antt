@@ -1,18 +1,14 @@
 -- The states to which a run comes.
-use Rattle.std.specs.Prelude.{◌≡◌, ℕ, ◌<◌, true, false, not, Bool, List, [], ◌∷◌, map, length}
+use Rattle.std.specs.Prelude.{◌≡◌, ℕ, ◌<◌, true, false, not, Bool, List, map, length}
 use Rattle.std.specs.List.{filter}
 use Rattle.latch_model.specs.Histories.{Begin, begins, has_begun, has_ended, latches_of, open_begins}
 use Rattle.latch_model.specs.declared.history.Entry.{Entry}
 use Rattle.latch_model.specs.declared.latch.Latch.{Latch}
 use Rattle.latch_model.specs.declared.latch.Mode.{Mode}
+use Rattle.latch_model.proofs.Ascending.{Rising}
 use Rattle.latch_model.proofs.Elements.{Each}
 use Rattle.step_run.specs.State.{Named}
 use Rattle.step_run.specs.Steps.{is_over}
-
--- strictly ascending numbers
-abbrev pub Rising : List ℕ → Type 0
-Rising [] = Unit {0}
-Rising (x ∷ xs) = Each (λ y. x < y) xs × Rising xs
 
 -- what matters of a begin, and of the request of a live name
 pub record Brief : Type 0 where

@@ -57,8 +57,10 @@ pub(crate) fn polled_line(
     waiting: &Waiting,
     out: &mut Vec<u8>,
 ) -> Result<(), Memory>
-    ensures blocked { (x : HeldLatch) → waiting.now.last ≡ Blocked x → OnOk result (out.new.items ≡ out.old.items ++ named_line name.now (met_text words.now x)) }
-    ensures poisoned { (x : HeldLatch) → waiting.now.last ≡ Poisoned x → OnOk result (out.new.items ≡ out.old.items ++ named_line name.now (met_text words.now x)) }
+    ensures blocked { (x : HeldLatch) → waiting.now.last ≡ Blocked x →
+        OnOk result (out.new.items ≡ out.old.items ++ named_line name.now (met_text words.now x)) }
+    ensures poisoned { (x : HeldLatch) → waiting.now.last ≡ Poisoned x →
+        OnOk result (out.new.items ≡ out.old.items ++ named_line name.now (met_text words.now x)) }
 {
     match waiting.mark() {
         Some(mark) => mark_line(name, words, mark, out),
@@ -111,7 +113,8 @@ fn count_text(words: &[u8], n: u32, out: &mut Vec<u8>) -> Result<(), Memory>
 
 // A name, words, and a held latch with the number of its request.
 fn mark_line(name: &Name, words: &[u8], mark: &Mark, out: &mut Vec<u8>) -> Result<(), Memory>
-    ensures { OnOk result (out.new.items ≡ out.old.items ++ named_line name.now (words.now ++ decimal mark.now.by ++ 32 ∷ marked mark.now.span mark.now.stamp)) }
+    ensures { OnOk result (out.new.items
+        ≡ out.old.items ++ named_line name.now (words.now ++ decimal mark.now.by ++ 32 ∷ marked mark.now.span mark.now.stamp)) }
 {
     begin_line(name, words, out)?;
     number_text(mark.by, out)?;

@@ -1,5 +1,6 @@
 // The opening of a request.
-ghost use Rattle.std.specs.Prelude.{◌≡◌, ℕ, ◌≤◌, ◌+◌, ◌<◌, ◌++◌, [], ◌∷◌, codes, decimal, false, map, length, vec_capacity, vec_len, Some, IfOk, OnOk, OnErr, slice_get};
+ghost use Rattle.std.specs.Prelude.{◌≡◌, ℕ, ◌≤◌, ◌+◌, ◌<◌, ◌++◌, [], ◌∷◌, codes, decimal, false, map, length, vec_capacity, vec_len, Some, IfOk, OnOk};
+ghost use Rattle.std.specs.Prelude.{OnErr, slice_get};
 ghost use Rattle.latch_model.specs.Declaration.{Declaration};
 ghost use Rattle.report.specs.Words.{numbers_text};
 ghost use Rattle.script.specs.declared.limits.TheConstants.{SESSION_LIMIT};

@@ -101,7 +101,11 @@ fn stamp(core: &Core, desk: &mut Desk, waiting: Waiting) -> (Granted, u64)
     requires ready { waiting.last ≡ Ready }
     ensures desk { desk.new ≡ desk.old }
     ensures front { waiting.r.shown ≡ desk.old.log → result.1 ≡ length desk.old.log }
-    ensures granted { result.0 ≡ record { table = waiting.table; r = record waiting.r { shown = desk.old.log; front = Some result.1 }; grant = Waited result.1 } }
+    ensures granted { result.0 ≡ record {
+      table = waiting.table;
+      r = record waiting.r { shown = desk.old.log; front = Some result.1 };
+      grant = Waited result.1;
+    } }
 {
     let mut granted = waiting.grant(core);
     desk.tell_granted(core, &mut granted);

@@ -11,5 +11,6 @@ returns c =
     let cs = c.args.script.now in
     c.in_ok-summary_text.ensures.ok
     ∙ ap (λ s. c.run_all-done.new.out.items ++ summary_text s) (c.summary.ensures ∙ ap (λ (es : List Entry). summary_of es)
-    (c.as_slice.ensures.value ∙ ap (λ (r : Recorded). r.entries) c.history.view_is ∙ c.close-history.ensures c.in_ok-done.ensures.lives ∙ c.in_ok-done.ensures.history))
+    (c.as_slice.ensures.value ∙ ap (λ (r : Recorded). r.entries) c.history.view_is
+    ∙ c.close-history.ensures c.in_ok-done.ensures.lives ∙ c.in_ok-done.ensures.history))
     ∙ ap (λ (w : List ℕ). w ++ summary_text (summary_of (run start cs).state.history)) c.in_ok-done.ensures.written

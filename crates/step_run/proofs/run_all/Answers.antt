@@ -49,10 +49,11 @@ returns c =
     let i = c.loop-i.i in
     let past : length c.commands-command-items.result.now ≤ i = omega arith in
     let whole : take i cs ≡ cs = take_whole cs i (subst (λ ds. length ds ≤ i) c.commands-command-items.ensures.list past) in
-    let stands : StandsAfter cs (seen_run c.loop-i.run) c.loop-i.out.items = subst (λ ds. StandsAfter ds (seen_run c.loop-i.run) c.loop-i.out.items) whole c.loop-i.invariant.stands in
+    let stands = subst (λ ds. StandsAfter ds (seen_run c.loop-i.run) c.loop-i.out.items) whole c.loop-i.invariant.stands in
     record {
       sound = c.loop-i.invariant.sound;
       written = stands.written;
       history = stands.stands.history;
-      lives = no_items c.loop-i.run.lives.items (none_left cs (seen_run c.loop-i.run) c.loop-i.out.items c.commands-command-items.ensures.rules.released stands);
+      lives = no_items c.loop-i.run.lives.items
+          (none_left cs (seen_run c.loop-i.run) c.loop-i.out.items c.commands-command-items.ensures.rules.released stands);
     }

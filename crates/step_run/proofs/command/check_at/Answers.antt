@@ -46,7 +46,8 @@ returns-clause-step c = λ s n h here.
     let at = seen_get xs c.args.i x c.index_mut-live.ensures.value c.requires.inside in
     let o = c.requires.optimistic (seen_live x) at in
     on_ok_weaker c.check_value.result
-    (λ (w : (p : OptimistSays) × (c.check_value.new.value ≡ Optimist p) × ChecksAs o.0 p x.name.now c.in_ok-copy.copy c.args.out.now.items c.check_value.new.out.items).
+    (λ (w : (p : OptimistSays) × (c.check_value.new.value ≡ Optimist p)
+    × ChecksAs o.0 p x.name.now c.in_ok-copy.copy c.args.out.now.items c.check_value.new.out.items).
     makes_checked s (seen_run c.args.run.now) _ c.args.i n (seen_live x) o.0 w.0 c.args.asked.now x.name.now c.args.out.now.items c.check_value.new.out.items
     h here at o.1 refl
     (subst (λ (ls : List Latch). ChecksAs o.0 w.0 x.name.now ls c.args.out.now.items c.check_value.new.out.items) c.in_ok-copy.ensures w.2)

@@ -24,7 +24,8 @@ returns-then-poison-clause-sound c =
     let l = Each-at (IsLive c.args.run.now.core.board.table) (seen_run c.args.run.now).lives c.args.i (seen_live x) at c.requires.sound.lives in
     sound_value (seen_run c.args.run.now) c.args.i (seen_live x) (called_value x.value) _ at (held_called x.value)
     (of_called c.args.run.now.core.board.table x.session x.value l.of)
-    (set_value xs c.args.i x c.poison.new.value c.index_mut-live.ensures.value ∙ ap (λ (v : Value). with_value c.args.i v (map seen_live xs)) c.poison.ensures.value)
+    (set_value xs c.args.i x c.poison.new.value c.index_mut-live.ensures.value
+    ∙ ap (λ (v : Value). with_value c.args.i v (map seen_live xs)) c.poison.ensures.value)
     c.requires.sound
 
 pub returns-else-poison-clause-sound : goal.returns-else-poison-clause-sound
@@ -35,7 +36,8 @@ returns-else-poison-clause-sound c =
     let l = Each-at (IsLive c.args.run.now.core.board.table) (seen_run c.args.run.now).lives c.args.i (seen_live x) at c.requires.sound.lives in
     sound_value (seen_run c.args.run.now) c.args.i (seen_live x) (called_value x.value) _ at (held_called x.value)
     (of_called c.args.run.now.core.board.table x.session x.value l.of)
-    (set_value xs c.args.i x c.poison.new.value c.index_mut-live.ensures.value ∙ ap (λ (v : Value). with_value c.args.i v (map seen_live xs)) c.poison.ensures.value)
+    (set_value xs c.args.i x c.poison.new.value c.index_mut-live.ensures.value
+    ∙ ap (λ (v : Value). with_value c.args.i v (map seen_live xs)) c.poison.ensures.value)
     c.requires.sound
 
 pub returns-then-poison-clause-step : goal.returns-then-poison-clause-step
@@ -46,7 +48,8 @@ returns-then-poison-clause-step c = λ s n h here.
     on_ok_weaker c.words_line.result
     (λ w. makes_called s (seen_run c.args.run.now) _ c.args.i n (seen_live x) x.name.now c.args.out.now.items c.words_line.new.out.items h here at
     (sym c.poison.ensures.called ∙ c.if-poison.true) refl
-    (set_value xs c.args.i x c.poison.new.value c.index_mut-live.ensures.value ∙ ap (λ (v : Value). with_value c.args.i v (map seen_live xs)) c.poison.ensures.value)
+    (set_value xs c.args.i x c.poison.new.value c.index_mut-live.ensures.value
+    ∙ ap (λ (v : Value). with_value c.args.i v (map seen_live xs)) c.poison.ensures.value)
     refl w)
     c.words_line.ensures
 
@@ -57,4 +60,5 @@ returns-else-poison-clause-step c = λ s n h here.
     let at = seen_get xs c.args.i x c.index_mut-live.ensures.value c.requires.inside in
     makes_uncalled s (seen_run c.args.run.now) _ c.args.i n (seen_live x) c.args.out.now.items h here at
     (sym c.poison.ensures.called ∙ c.if-poison.false) refl
-    (set_value xs c.args.i x c.poison.new.value c.index_mut-live.ensures.value ∙ ap (λ (v : Value). with_value c.args.i v (map seen_live xs)) c.poison.ensures.value)
+    (set_value xs c.args.i x c.poison.new.value c.index_mut-live.ensures.value
+    ∙ ap (λ (v : Value). with_value c.args.i v (map seen_live xs)) c.poison.ensures.value)

@@ -23,7 +23,8 @@ turn-requires-clause-lent c =
     let w = seen_there c.args.run.now.lives.items c.args.i c.requires.inside in
     let l = Each-at (IsLive c.args.run.now.core.board.table) (seen_run c.args.run.now).lives c.args.i w.0 w.1 c.requires.sound.lives in
     let of = of_optimist c.args.run.now.core.board.table w.0.session w.0.value c.in-Optimist.optimist (c.in-Optimist.ensures.value w.0 w.1) l.of in
-    subst (λ k. IsLent c.args.i k (record (seen_run c.args.run.now) { lives = map seen_live c.take.new.lives.items })) (sym (ap (λ (x : WaitingSays). x.r.who) c.into_waiting.ensures ∙ of.1))
+    subst (λ k. IsLent c.args.i k (record (seen_run c.args.run.now) { lives = map seen_live c.take.new.lives.items }))
+    (sym (ap (λ (x : WaitingSays). x.r.who) c.into_waiting.ensures ∙ of.1))
     (lent_take (seen_run c.args.run.now) c.args.i w.0 (map seen_live c.take.new.lives.items) w.1 c.take.ensures.lives)
 
 pub turn-requires-clause-sound : goal.turn-requires-clause-sound
@@ -31,7 +32,8 @@ turn-requires-clause-sound c =
     let w = seen_there c.args.run.now.lives.items c.args.i c.requires.inside in
     let l = Each-at (IsLive c.args.run.now.core.board.table) (seen_run c.args.run.now).lives c.args.i w.0 w.1 c.requires.sound.lives in
     let of = of_optimist c.args.run.now.core.board.table w.0.session w.0.value c.in-Optimist.optimist (c.in-Optimist.ensures.value w.0 w.1) l.of in
-    subst (λ k. Sound k (record (seen_run c.args.run.now) { lives = map seen_live c.take.new.lives.items })) (sym (ap (λ (x : WaitingSays). x.r.who) c.into_waiting.ensures ∙ of.1))
+    subst (λ k. Sound k (record (seen_run c.args.run.now) { lives = map seen_live c.take.new.lives.items }))
+    (sym (ap (λ (x : WaitingSays). x.r.who) c.into_waiting.ensures ∙ of.1))
     (sound_take (seen_run c.args.run.now) c.args.i w.0 (map seen_live c.take.new.lives.items) w.1 c.take.ensures.lives c.requires.sound)
 
 pub turn-requires-clause-table : goal.turn-requires-clause-table
@@ -67,7 +69,8 @@ pub returns-in-Optimist-clause-step : goal.returns-in-Optimist-clause-step
 returns-in-Optimist-clause-step c = λ s n h here.
     let w = seen_there c.args.run.now.lives.items c.args.i c.requires.inside in
     let a = waits_optimistic c.args.i s (seen_run c.args.run.now) _ n w.0 c.in-Optimist.optimist c.into_waiting.result h here w.1
-    (sym (c.in-Optimist.ensures.value w.0 w.1)) (ap (λ (x : WaitingSays). x.r) c.into_waiting.ensures) (ap (λ (x : WaitingSays). x.turns) c.into_waiting.ensures)
+    (sym (c.in-Optimist.ensures.value w.0 w.1)) (ap (λ (x : WaitingSays). x.r) c.into_waiting.ensures)
+    (ap (λ (x : WaitingSays). x.turns) c.into_waiting.ensures)
     refl c.take.ensures.lives in
     subst (λ (t : Step). OnOk c.turn.result (Makes t (seen_run c.turn.new.run) c.args.out.now.items c.turn.new.out.items)) (sym a.same)
     (c.turn.ensures.turn a.state a.name a.stands a.at a.going a.fits a.turns)
@@ -77,7 +80,8 @@ returns-in-Waiting-clause-step c = λ s n h here.
     let w = seen_there c.args.run.now.lives.items c.args.i c.requires.inside in
     let a = waits_pending c.args.i s (seen_run c.args.run.now) _ n w.0 c.in-Waiting.waiting h here w.1
     (sym (c.in-Waiting.ensures.value w.0 w.1)) refl c.take.ensures.lives in
-    subst (λ (t : Step). OnOk c.turn-in-Waiting.result (Makes t (seen_run c.turn-in-Waiting.new.run) c.args.out.now.items c.turn-in-Waiting.new.out.items)) (sym a.same)
+    subst (λ (t : Step). OnOk c.turn-in-Waiting.result (Makes t (seen_run c.turn-in-Waiting.new.run) c.args.out.now.items c.turn-in-Waiting.new.out.items))
+    (sym a.same)
     (c.turn-in-Waiting.ensures.turn a.state a.name a.stands a.at a.going a.fits a.turns)
 
 pub returns-in-Granted-clause-sound : goal.returns-in-Granted-clause-sound

@@ -13,7 +13,7 @@ pub returns-clause-lives : goal.returns-clause-lives
 returns-clause-lives c = λ l at.
     let xs = c.args.lives.now.items in
     let x = c.index_mut-live.result.now in
-    let same = seen_at xs c.args.i x l at c.index_mut-live.ensures.value c.requires.inside in
+    let same = seen_at xs c.args.i x l at c.index_mut-live.ensures.value in
     let w = c.hear.ensures.value in (
       w.0,
       set_value xs c.args.i x c.hear.new.value c.index_mut-live.ensures.value
@@ -22,5 +22,5 @@ returns-clause-lives c = λ l at.
 
 pub returns-clause-heard : goal.returns-clause-heard
 returns-clause-heard c = λ l at.
-    let same = seen_at c.args.lives.now.items c.args.i c.index_mut-live.result.now l at c.index_mut-live.ensures.value c.requires.inside in
+    let same = seen_at c.args.lives.now.items c.args.i c.index_mut-live.result.now l at c.index_mut-live.ensures.value in
     subst (λ (k : LiveSays). Heard c.args.by c.args.waiting.now.r c.hear.new.waiting.r k.value) same c.hear.ensures.heard

@@ -2,7 +2,8 @@ use Rattle.std.proofs.Common.{◌≡◌, ◌<◌, length, true, sym, ◌∙◌, 
 use Rattle.script.specs.Commands.{same_name}
 use Rattle.step_run.specs.Lives.{LiveSays, seen_live}
 use Rattle.step_run.specs.declared.live.Live.{Live}
-use Rattle.step_run.proofs.Places.{position_found, position_map, position_none}
+use Rattle.waiter.proofs.Firsts.{position_found, position_none}
+use Rattle.step_run.proofs.Places.{position_map}
 use Rattle.step_run.proofs.live.live_place.Goals as goal
 
 pub returns-then-eq-clause-place : goal.returns-then-eq-clause-place

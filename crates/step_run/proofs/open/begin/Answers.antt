@@ -1,5 +1,5 @@
-use Rattle.std.proofs.Common.{◌≡◌, ◌+◌, ◌-◌, ◌<◌, [], ◌∷◌, ◌++◌, false, length, Some, refl, sym, ap, ◌∙◌, subst, arith}
-use Rattle.std.specs.Prelude.{slice_get, slice_set}
+use Rattle.std.proofs.Common.{◌≡◌, ◌+◌, ◌-◌, ◌<◌, [], ◌∷◌, ◌++◌, false, length, refl, sym, ap, ◌∙◌, subst, arith}
+use Rattle.std.specs.Prelude.{slice_set}
 use Rattle.step_run.specs.Runs.{RunSays, Sound}
 use Rattle.step_run.specs.Seen.{seen_run}
 use Rattle.sequence_core.specs.Says.{DeskState, next_entry}
@@ -17,14 +17,14 @@ pub begin-requires-clause-tables : goal.begin-requires-clause-tables
 begin-requires-clause-tables c =
     let p = c.index_mut.result.now in
     let inside : c.args.session - 1 < length c.args.run.now.passes.items = omega (arith, c.requires.sound.count, c.requires.session.1, c.requires.session.0) in
-    let at : slice_get c.args.run.now.passes.items (c.args.session - 1) ≡ Some p = get_there c.args.run.now.passes.items (c.args.session - 1) p c.index_mut.ensures.value inside in
+    let at = get_there c.args.run.now.passes.items (c.args.session - 1) p c.index_mut.ensures.value inside in
     (c.requires.sound.table, (c.requires.sound.passes (c.args.session - 1) p at).table)
 
 pub begin-requires-clause-idle : goal.begin-requires-clause-idle
 begin-requires-clause-idle c =
     let p = c.index_mut.result.now in
     let inside : c.args.session - 1 < length c.args.run.now.passes.items = omega (arith, c.requires.sound.count, c.requires.session.1, c.requires.session.0) in
-    let at : slice_get c.args.run.now.passes.items (c.args.session - 1) ≡ Some p = get_there c.args.run.now.passes.items (c.args.session - 1) p c.index_mut.ensures.value inside in
+    let at = get_there c.args.run.now.passes.items (c.args.session - 1) p c.index_mut.ensures.value inside in
     let back : c.args.session - 1 + 1 ≡ c.args.session = omega (arith, c.requires.session.0) in
     (c.requires.sound.passes (c.args.session - 1) p at).idle (λ z. absurd (omega arith))
     (subst (λ j. has_open j (seen_run c.args.run.now).lives ≡ false) (sym back) c.requires.idle)
@@ -35,7 +35,7 @@ returns-in-Memory-clause-refused c =
     let q = c.begin.new.pass in
     let r : RunSays = seen_run c.args.run.now in
     let inside : c.args.session - 1 < length c.args.run.now.passes.items = omega (arith, c.requires.sound.count, c.requires.session.1, c.requires.session.0) in
-    let at : slice_get c.args.run.now.passes.items (c.args.session - 1) ≡ Some p = get_there c.args.run.now.passes.items (c.args.session - 1) p c.index_mut.ensures.value inside in
+    let at = get_there c.args.run.now.passes.items (c.args.session - 1) p c.index_mut.ensures.value inside in
     let back : c.args.session - 1 + 1 ≡ c.args.session = omega (arith, c.requires.session.0) in
     let idle : open_count p.p.mine ≡ 0 = (c.requires.sound.passes (c.args.session - 1) p at).idle (λ z. absurd (omega arith))
     (subst (λ j. has_open j (seen_run c.args.run.now).lives ≡ false) (sym back) c.requires.idle) in
@@ -61,7 +61,7 @@ returns-in-Ok-clause-lent c =
     let q = c.begin.new.pass in
     let r : RunSays = seen_run c.args.run.now in
     let inside : c.args.session - 1 < length c.args.run.now.passes.items = omega (arith, c.requires.sound.count, c.requires.session.1, c.requires.session.0) in
-    let at : slice_get c.args.run.now.passes.items (c.args.session - 1) ≡ Some p = get_there c.args.run.now.passes.items (c.args.session - 1) p c.index_mut.ensures.value inside in
+    let at = get_there c.args.run.now.passes.items (c.args.session - 1) p c.index_mut.ensures.value inside in
     subst (λ (d : DeskState). Sound c.args.session (record {
       board = r.board;
       desk = d.table;
@@ -82,7 +82,7 @@ pub returns-in-Ok-clause-log : goal.returns-in-Ok-clause-log
 returns-in-Ok-clause-log c =
     let p = c.index_mut.result.now in
     let inside : c.args.session - 1 < length c.args.run.now.passes.items = omega (arith, c.requires.sound.count, c.requires.session.1, c.requires.session.0) in
-    let at : slice_get c.args.run.now.passes.items (c.args.session - 1) ≡ Some p = get_there c.args.run.now.passes.items (c.args.session - 1) p c.index_mut.ensures.value inside in
+    let at = get_there c.args.run.now.passes.items (c.args.session - 1) p c.index_mut.ensures.value inside in
     let back : c.args.session - 1 + 1 ≡ c.args.session = omega (arith, c.requires.session.0) in
     let who : p.p.who ≡ c.args.session = (c.requires.sound.passes (c.args.session - 1) p at).who ∙ back in
     ap (λ (d : DeskState). d.log) c.in-Ok.ensures.desk
@@ -92,7 +92,7 @@ pub returns-in-Ok-clause-value : goal.returns-in-Ok-clause-value
 returns-in-Ok-clause-value c =
     let p = c.index_mut.result.now in
     let inside : c.args.session - 1 < length c.args.run.now.passes.items = omega (arith, c.requires.sound.count, c.requires.session.1, c.requires.session.0) in
-    let at : slice_get c.args.run.now.passes.items (c.args.session - 1) ≡ Some p = get_there c.args.run.now.passes.items (c.args.session - 1) p c.index_mut.ensures.value inside in
+    let at = get_there c.args.run.now.passes.items (c.args.session - 1) p c.index_mut.ensures.value inside in
     let back : c.args.session - 1 + 1 ≡ c.args.session = omega (arith, c.requires.session.0) in
     let who : p.p.who ≡ c.args.session = (c.requires.sound.passes (c.args.session - 1) p at).who ∙ back in
     let log = c.args.run.now.desk.log in

@@ -14,7 +14,8 @@ use Rattle.step_run.proofs.open.open.Goals as goal
 
 pub begin-requires-clause-idle : goal.begin-requires-clause-idle
 begin-requires-clause-idle c =
-    ap (λ xs. has_open c.args.opening.session (map seen_live xs)) c.reserve.ensures.items ∙ no_open c.args.opening.session (seen_run c.args.run.now).lives c.requires.idle
+    ap (λ xs. has_open c.args.opening.session (map seen_live xs)) c.reserve.ensures.items
+    ∙ no_open c.args.opening.session (seen_run c.args.run.now).lives c.requires.idle
 
 pub push-requires : goal.push-requires
 push-requires c =
@@ -44,7 +45,7 @@ write_opening-requires-clause-begun c =
     let v = c.in_ok-value.value in
     let ls = (seen_run c.begin.new.run).lives in
     let place : length ls ≡ c.len-i.result =
-    (let a : length ls ≡ length c.begin.new.run.lives.items = length-map c.begin.new.run.lives.items seen_live in omega (arith, c.begin.new.run.lives.ok.0, c.len-i.ensures)) in (
+    omega (arith, length-map c.begin.new.run.lives.items seen_live, c.begin.new.run.lives.ok.0, c.len-i.ensures) in (
       opening_of o v,
       ap (λ k. slice_get (seen_run c.push.new.run).lives k) (sym place) ∙ pushed_at ls (seen_run c.push.new.run).lives (opening_of o v) c.push.ensures.lives,
       (begun_held c.args.run.now.core.board.table o.mode _ v c.in_ok-value.ensures.value).1,
@@ -59,7 +60,7 @@ returns-clause-opened c = λ s h line range.
     let ls = (seen_run c.begin.new.run).lives in
     let kept : ls ≡ r.lives = ap (λ xs. map seen_live xs) (c.in_ok-value.ensures.lives.2 ∙ c.reserve.ensures.items) in
     let place : length ls ≡ c.len-i.result =
-    (let a : length ls ≡ length c.begin.new.run.lives.items = length-map c.begin.new.run.lives.items seen_live in omega (arith, c.begin.new.run.lives.ok.0, c.len-i.ensures)) in
+    omega (arith, length-map c.begin.new.run.lives.items seen_live, c.begin.new.run.lives.ok.0, c.len-i.ensures) in
     let here : length r.lives ≡ c.len-i.result = sym (ap (λ (xs : List LiveSays). length xs) kept) ∙ place in
     let a = opens_as s r (seen_run c.push.new.run) l c.args.run.now.core.board.table c.args.request h line range
     (ap (λ (d : DeskState). d.log) c.push.ensures.others.1 ∙ c.in_ok-value.ensures.log) c.in_ok-value.ensures.value

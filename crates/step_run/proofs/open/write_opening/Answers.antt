@@ -4,22 +4,21 @@ use Rattle.step_run.specs.Lives.{IsLive, LiveSays, seen_live}
 use Rattle.step_run.specs.Seen.{seen_run}
 use Rattle.step_run.specs.Openings.{opening_text}
 use Rattle.step_run.specs.Texts.{named_line}
-use Rattle.step_run.proofs.Lives.{seen_at, seen_get}
+use Rattle.step_run.proofs.Lives.{inside_seen, seen_at, seen_get}
 use Rattle.step_run.proofs.Places.{Each-at}
-use Rattle.step_run.proofs.Turning.{inside_lent}
 use Rattle.step_run.proofs.open.write_opening.Goals as goal
 
 pub begun_line-requires-clause-table : goal.begun_line-requires-clause-table
 begun_line-requires-clause-table c =
     let x = c.index_mut-live.result.now in
     let xs = c.args.run.now.lives.items in
-    let at = seen_get xs c.args.i x c.index_mut-live.ensures.value (inside_lent xs c.args.i c.requires.begun.0 c.requires.begun.1) in
+    let at = seen_get xs c.args.i x c.index_mut-live.ensures.value (inside_seen xs c.args.i c.requires.begun.0 c.requires.begun.1) in
     (x.session, (Each-at (IsLive c.args.run.now.core.board.table) (seen_run c.args.run.now).lives c.args.i (seen_live x) at c.requires.sound.lives).of)
 
 pub returns-clause-line : goal.returns-clause-line
 returns-clause-line c = λ l at.
     let x = c.index_mut-live.result.now in
     let xs = c.args.run.now.lives.items in
-    let same = seen_at xs c.args.i x l at c.index_mut-live.ensures.value (inside_lent xs c.args.i c.requires.begun.0 c.requires.begun.1) in
+    let same = seen_at xs c.args.i x l at c.index_mut-live.ensures.value in
     subst (λ (k : LiveSays). OnOk c.begun_line.result (c.begun_line.new.out.items ≡ c.args.out.now.items ++ named_line k.name (opening_text k.value))) same
     c.begun_line.ensures.line

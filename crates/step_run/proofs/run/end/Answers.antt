@@ -1,5 +1,5 @@
-use Rattle.std.proofs.Common.{◌≡◌, ◌+◌, ◌-◌, ◌<◌, ◌≤◌, length, Some, sym, ap, ◌∙◌, subst, arith}
-use Rattle.std.specs.Prelude.{slice_get, slice_set}
+use Rattle.std.proofs.Common.{◌≡◌, ◌+◌, ◌-◌, ◌<◌, ◌≤◌, length, sym, ap, ◌∙◌, subst, arith}
+use Rattle.std.specs.Prelude.{slice_set}
 use Rattle.sequence_core.specs.Says.{DeskState}
 use Rattle.signal_board.specs.Says.{PassSays}
 use Rattle.step_run.specs.Runs.{RunSays, Sound}
@@ -11,15 +11,17 @@ use Rattle.step_run.proofs.run.end.Goals as goal
 pub end-requires-clause-tables : goal.end-requires-clause-tables
 end-requires-clause-tables c =
     let p = c.index_mut.result.now in
-    let inside : c.who.result - 1 < length c.args.run.now.passes.items = omega (arith, c.requires.sound.count, c.who.ensures, c.requires.session.1, c.requires.session.0) in
-    let at : slice_get c.args.run.now.passes.items (c.who.result - 1) ≡ Some p = get_there c.args.run.now.passes.items (c.who.result - 1) p c.index_mut.ensures.value inside in
+    let inside : c.who.result - 1 < length c.args.run.now.passes.items =
+    omega (arith, c.requires.sound.count, c.who.ensures, c.requires.session.1, c.requires.session.0) in
+    let at = get_there c.args.run.now.passes.items (c.who.result - 1) p c.index_mut.ensures.value inside in
     (c.requires.sound.table, (c.requires.sound.passes (c.who.result - 1) p at).table, c.requires.table)
 
 pub end-requires-clause-session : goal.end-requires-clause-session
 end-requires-clause-session c =
     let p = c.index_mut.result.now in
-    let inside : c.who.result - 1 < length c.args.run.now.passes.items = omega (arith, c.requires.sound.count, c.who.ensures, c.requires.session.1, c.requires.session.0) in
-    let at : slice_get c.args.run.now.passes.items (c.who.result - 1) ≡ Some p = get_there c.args.run.now.passes.items (c.who.result - 1) p c.index_mut.ensures.value inside in
+    let inside : c.who.result - 1 < length c.args.run.now.passes.items =
+    omega (arith, c.requires.sound.count, c.who.ensures, c.requires.session.1, c.requires.session.0) in
+    let at = get_there c.args.run.now.passes.items (c.who.result - 1) p c.index_mut.ensures.value inside in
     let who : p.p.who ≡ c.who.result - 1 + 1 = (c.requires.sound.passes (c.who.result - 1) p at).who in
     let back : c.who.result - 1 + 1 ≡ c.who.result = omega (arith, c.who.ensures, c.requires.session.0) in
     sym (who ∙ back ∙ c.who.ensures)
@@ -29,8 +31,9 @@ returns-clause-sound c =
     let p = c.index_mut.result.now in
     let q = c.end.new.pass in
     let r : RunSays = seen_run c.args.run.now in
-    let inside : c.who.result - 1 < length c.args.run.now.passes.items = omega (arith, c.requires.sound.count, c.who.ensures, c.requires.session.1, c.requires.session.0) in
-    let at : slice_get c.args.run.now.passes.items (c.who.result - 1) ≡ Some p = get_there c.args.run.now.passes.items (c.who.result - 1) p c.index_mut.ensures.value inside in
+    let inside : c.who.result - 1 < length c.args.run.now.passes.items =
+    omega (arith, c.requires.sound.count, c.who.ensures, c.requires.session.1, c.requires.session.0) in
+    let at = get_there c.args.run.now.passes.items (c.who.result - 1) p c.index_mut.ensures.value inside in
     let low : 1 ≤ c.who.result = omega (arith, c.who.ensures, c.requires.session.0) in
     subst (λ (d : DeskState). Sound 0 (record {
       board = r.board;

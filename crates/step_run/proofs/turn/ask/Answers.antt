@@ -22,7 +22,9 @@ returns-clause-asked c = λ s i n h at f.
     asked_whole s i n (seen_run c.args.run.now) (map seen_live c.hear_some.new.lives.items) c.args.waiting.now c.tell.new.waiting c.hear_some.new.waiting
     c.poll-polled.new.self c.hear_some-2.new.waiting c.tell-2.new.waiting c.poll-polled.result c.args.run.now.desk.log c.tell.new.self.log one.0 two.0
     h at f refl c.tell.ensures.told one.1 c.hear_some.ensures.heard c.hear_some.ensures.lives c.poll-polled.ensures.same c.poll-polled.ensures.answer
-    two.1 (subst (λ k. AreHeard k c.poll-polled.new.self.r c.hear_some-2.new.waiting.r (map seen_live c.hear_some.new.lives.items)) c.blocker.ensures c.hear_some-2.ensures.heard)
+    two.1
+    (subst (λ k. AreHeard k c.poll-polled.new.self.r c.hear_some-2.new.waiting.r (map seen_live c.hear_some.new.lives.items)) c.blocker.ensures
+    c.hear_some-2.ensures.heard)
     (ap (λ (d : DeskState). d.log) c.tell.ensures.desk) c.tell-2.ensures.told c.tell-2.ensures.ended
 
 pub returns-clause-last : goal.returns-clause-last

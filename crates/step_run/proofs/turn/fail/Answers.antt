@@ -1,12 +1,12 @@
-use Rattle.std.proofs.Common.{map, sym, ap, ◌∙◌}
+use Rattle.std.proofs.Common.{map, ap, ◌∙◌}
 use Rattle.std.proofs.lemmas.Result.{on_ok_weaker}
 use Rattle.step_run.specs.Lives.{LiveSays, seen_live}
 use Rattle.step_run.specs.Seen.{seen_run}
 use Rattle.latch_model.specs.declared.history.Fault.TheVariants.{Poisoned as by_poison}
 use Rattle.latch_model.specs.declared.history.Grant.TheVariants.{Never}
-use Rattle.step_run.proofs.Lives.{seen_get}
+use Rattle.step_run.proofs.Lives.{seen_at}
 use Rattle.step_run.proofs.Sounding.{lent_session}
-use Rattle.step_run.proofs.Turning.{inside_lent, itself, lent_name, makes_poisoned, same_live, stands_ended}
+use Rattle.step_run.proofs.Turning.{itself, lent_name, makes_poisoned, stands_ended}
 use Rattle.step_run.proofs.turn.fail.Goals as goal
 
 pub returns-clause-turn : goal.returns-clause-turn
@@ -14,10 +14,10 @@ returns-clause-turn c = λ s n old h at o a.
     let x = c.index.result.now in
     let r = seen_run c.args.run.now in
     let k = c.requires.lent in
-    let live = same_live r.lives c.args.i k.live (seen_live x) k.at (seen_get c.args.run.now.lives.items c.args.i x c.index.ensures (inside_lent c.args.run.now.lives.items c.args.i k.live k.at)) in
+    let live = seen_at c.args.run.now.lives.items c.args.i x k.live k.at c.index.ensures in
     on_ok_weaker c.polled_line-written.result
     (λ w. makes_poisoned s n c.args.by old c.args.waiting (seen_run c.give_up.new.run) x.name.now c.args.out.now.items c.polled_line-written.new.out.items a
-    (ap (λ (l : LiveSays). l.name) (sym live) ∙ (lent_name c.args.i c.args.waiting.r.who s r n h at k).name)
+    (ap (λ (l : LiveSays). l.name) live ∙ (lent_name c.args.i c.args.waiting.r.who s r n h at k).name)
     (stands_ended c.args.i s r (seen_run c.give_up.new.run) n n c.args.waiting.r Never (by_poison c.args.by) h at k (itself n) a.fits
     c.give_up.ensures.log (ap (λ ys. map seen_live ys) c.give_up.ensures.lives)) w)
     (c.polled_line-written.ensures.poisoned a.latch a.last)

@@ -6,7 +6,8 @@ use Rattle.sequence_core.specs.Says.{end_entry}
 use Rattle.step_run.proofs.turn.give_up.Goals as goal
 
 pub end-requires-clause-sound : goal.end-requires-clause-sound
-end-requires-clause-sound c = subst (λ w. Sound w (seen_run c.args.run.now)) (sym (ap (λ (e : EndingSays). e.r.who) c.abandon-ending.ensures.ending)) c.requires.sound
+end-requires-clause-sound c =
+    subst (λ w. Sound w (seen_run c.args.run.now)) (sym (ap (λ (e : EndingSays). e.r.who) c.abandon-ending.ensures.ending)) c.requires.sound
 
 pub end-requires-clause-table : goal.end-requires-clause-table
 end-requires-clause-table c = ap (λ (e : EndingSays). e.table) c.abandon-ending.ensures.ending ∙ c.requires.table

@@ -10,9 +10,9 @@ use Rattle.latch_model.specs.declared.latch.Mode.TheVariants.{Look}
 use Rattle.sequence_core.specs.Says.{end_entry}
 use Rattle.waiter.specs.Says.{EndingSays}
 use Rattle.step_run.specs.declared.live.Value.TheVariants.{Granted as GrantedValue}
-use Rattle.step_run.proofs.Lives.{seen_get}
+use Rattle.step_run.proofs.Lives.{seen_at}
 use Rattle.step_run.proofs.Sounding.{lent_session, sound_put}
-use Rattle.step_run.proofs.Turning.{granted_look, granted_other, inside_lent, itself, lent_name, not_look, same_live, stands_ended, stands_granted}
+use Rattle.step_run.proofs.Turning.{granted_look, granted_other, itself, lent_name, not_look, stands_ended, stands_granted}
 use Rattle.step_run.proofs.turn.settle.Goals as goal
 
 pub end-requires-clause-sound : goal.end-requires-clause-sound
@@ -34,8 +34,8 @@ returns-in-Look-clause-stands c = λ s n h at o f g.
     let x = c.index.result.now in
     let r = seen_run c.args.run.now in
     let k = c.requires.lent in
-    let live = same_live r.lives c.args.i k.live (seen_live x) k.at (seen_get c.args.run.now.lives.items c.args.i x c.index.ensures (inside_lent c.args.run.now.lives.items c.args.i k.live k.at)) in
-    let mode : n.mode ≡ Look = sym (ap (λ (l : LiveSays). l.mode) (sym live) ∙ (lent_name c.args.i c.args.granted.r.who s r n h at k).mode) ∙ c.in-Look.is in
+    let live = seen_at c.args.run.now.lives.items c.args.i x k.live k.at c.index.ensures in
+    let mode : n.mode ≡ Look = sym (ap (λ (l : LiveSays). l.mode) live ∙ (lent_name c.args.i c.args.granted.r.who s r n h at k).mode) ∙ c.in-Look.is in
     granted_look s n (seen_run c.end.new.run) n.mode mode
     (stands_ended c.args.i s r (seen_run c.end.new.run) n n c.args.granted.r (Waited (length s.history)) no_fault h at k (itself n) f
     (c.end.ensures.log ∙ ap (λ (e : EndingSays). c.args.run.now.desk.log ++ end_entry e ∷ []) c.finish.ensures
@@ -52,7 +52,7 @@ returns-in-Acquire-clause-stands c = λ s n h at o f g.
     let x = c.index.result.now in
     let r = seen_run c.args.run.now in
     let k = c.requires.lent in
-    let live = same_live r.lives c.args.i k.live (seen_live x) k.at (seen_get c.args.run.now.lives.items c.args.i x c.index.ensures (inside_lent c.args.run.now.lives.items c.args.i k.live k.at)) in
-    let mode : x.mode ≡ n.mode = ap (λ (l : LiveSays). l.mode) (sym live) ∙ (lent_name c.args.i c.args.granted.r.who s r n h at k).mode in
+    let live = seen_at c.args.run.now.lives.items c.args.i x k.live k.at c.index.ensures in
+    let mode : x.mode ≡ n.mode = ap (λ (l : LiveSays). l.mode) live ∙ (lent_name c.args.i c.args.granted.r.who s r n h at k).mode in
     granted_other s n _ n.mode (λ e. not_look x.mode c.in-Acquire.is (mode ∙ e))
     (stands_granted c.args.i c.args.granted.r.who s r _ n c.args.granted h at o f g refl c.put.ensures)

@@ -6,9 +6,9 @@ use Rattle.step_run.specs.Seen.{seen_run}
 use Rattle.step_run.specs.declared.live.Value.TheVariants.{Waiting}
 use Rattle.step_run.specs.Steps.{spent_turn}
 use Rattle.std.specs.Prelude.{Option}
-use Rattle.step_run.proofs.Lives.{seen_get}
+use Rattle.step_run.proofs.Lives.{seen_at}
 use Rattle.step_run.proofs.Sounding.{sound_put}
-use Rattle.step_run.proofs.Turning.{inside_lent, lent_name, makes_uncounted, same_live}
+use Rattle.step_run.proofs.Turning.{lent_name, makes_uncounted}
 use Rattle.step_run.proofs.turn.spend.Goals as goal
 
 pub put-requires : goal.put-requires
@@ -24,8 +24,8 @@ returns-in-None-clause-spent c = λ s n m h at o same p f k.
     let x = c.index.result.now in
     let r = seen_run c.args.run.now in
     let lent = c.requires.lent in
-    let live = same_live r.lives c.args.i lent.live (seen_live x) lent.at (seen_get c.args.run.now.lives.items c.args.i x c.index.ensures (inside_lent c.args.run.now.lives.items c.args.i lent.live lent.at)) in
-    let turns = same.turns ∙ sym (ap (λ (l : LiveSays). l.turns) (sym live) ∙ (lent_name c.args.i c.args.waiting.r.who s r n h at lent).turns) in
+    let live = seen_at c.args.run.now.lives.items c.args.i x lent.live lent.at c.index.ensures in
+    let turns = same.turns ∙ sym (ap (λ (l : LiveSays). l.turns) live ∙ (lent_name c.args.i c.args.waiting.r.who s r n h at lent).turns) in
     makes_uncounted c.args.i s r _ n m c.args.waiting c.args.out.now.items h at o same p f (turns ∙ c.in-None.is) refl c.put.ensures
 
 pub returns-in-Some-clause-spent : goal.returns-in-Some-clause-spent
@@ -33,7 +33,8 @@ returns-in-Some-clause-spent c = λ s n m h at o same p f k.
     let x = c.index.result.now in
     let r = seen_run c.args.run.now in
     let lent = c.requires.lent in
-    let live = same_live r.lives c.args.i lent.live (seen_live x) lent.at (seen_get c.args.run.now.lives.items c.args.i x c.index.ensures (inside_lent c.args.run.now.lives.items c.args.i lent.live lent.at)) in
-    let turns = same.turns ∙ sym (ap (λ (l : LiveSays). l.turns) (sym live) ∙ (lent_name c.args.i c.args.waiting.r.who s r n h at lent).turns) in
-    subst (λ (q : Option ℕ). OnOk c.count.result (Makes (spent_turn m s q) (seen_run c.count.new.run) c.args.out.now.items c.count.new.out.items)) (sym (turns ∙ c.in-Some.is))
+    let live = seen_at c.args.run.now.lives.items c.args.i x lent.live lent.at c.index.ensures in
+    let turns = same.turns ∙ sym (ap (λ (l : LiveSays). l.turns) live ∙ (lent_name c.args.i c.args.waiting.r.who s r n h at lent).turns) in
+    subst (λ (q : Option ℕ). OnOk c.count.result (Makes (spent_turn m s q) (seen_run c.count.new.run) c.args.out.now.items c.count.new.out.items))
+    (sym (turns ∙ c.in-Some.is))
     (c.count.ensures.counted s n m h at o same p f (turns ∙ c.in-Some.is) k)
