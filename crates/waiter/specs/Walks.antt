@@ -7,11 +7,17 @@ use Rattle.latch_model.specs.Latches.{conflict, writes}
 use Rattle.latch_model.specs.declared.latch.Access.TheVariants.{Read, Write}
 use Rattle.latch_model.specs.declared.latch.Latch.{Latch}
 use Rattle.signal_board.specs.Says.{LaneSays}
+use Rattle.signal_board.specs.Views.{RequestView}
 use Rattle.waiter.specs.Helds.{latch_at}
+use Rattle.waiter.specs.Says.{waits_for}
 
 -- Each of these held latches is of a request that is known ended.
 abbrev pub AllEnded : List ℕ → List HeldLatch → Type 0
 AllEnded ended xs = (x : HeldLatch) → Contains xs x → Contains ended x.by
+
+-- A request that another waits for, by its number.
+abbrev pub IsWaitedFor : RequestView → ℕ → Type 0
+IsWaitedFor r by = (x : HeldLatch) × Contains (waits_for r) x × (x.by ≡ by)
 
 -- A seat has learnt of ends, and nothing else.
 abbrev pub Learns : LaneSays → LaneSays → Type 0

@@ -5,6 +5,7 @@
 mod first;
 mod granted;
 mod held;
+mod last;
 mod mark;
 mod numbers;
 mod opened;

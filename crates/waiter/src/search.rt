@@ -17,8 +17,8 @@ pub(crate) struct Found {
     pub(crate) at: usize,
 }
 
-// Whether a latch meets this held one and that one's request hasn't ended.
-fn is_open(board: &Board, seat: &mut LaneSeat, x: &HeldLatch, ask: &Latch) -> bool
+/// Whether a latch meets this held one and that one's request hasn't ended.
+pub(crate) fn is_open(board: &Board, seat: &mut LaneSeat, x: &HeldLatch, ask: &Latch) -> bool
     requires table { seat.old.table ≡ board.now.table }
     requires waits { conflict ask.now x.now.latch ≡ true → Contains (waits_for seat.old.r) x.now }
     ensures learns { Learns seat.old seat.new }

@@ -10,12 +10,13 @@ ghost use Rattle.signal_board.specs.Says.{absent_cause, first_cause, shown_to};
 ghost use Rattle.signal_board.specs.Steps.{if_caused, warned};
 ghost use Rattle.waiter.specs.Met.{IsMetStage, held_of, last_of};
 ghost use Rattle.waiter.specs.Polls.{Polls, SameBut};
-ghost use Rattle.waiter.specs.Says.{MayAbandon, ShowsLast, Ready as is_ready, waits_for};
+ghost use Rattle.waiter.specs.Says.{Blocked, MayAbandon, ShowsLast, Ready as is_ready, waits_for};
 ghost use Rattle.waiter.specs.Steps.{FoundAt, Judged};
-ghost use Rattle.waiter.specs.Walks.{AllEnded};
+ghost use Rattle.waiter.specs.Walks.{AllEnded, IsWaitedFor};
 
 use crate::granted::{Ending, Granted};
 use crate::held::{Captured, HeldLatch};
+use crate::last::last_open;
 use crate::mark::{Mark, Met, keep};
 use crate::numbers::numbers_met;
 use crate::opened::Core;
@@ -189,6 +190,27 @@ impl Waiting {
             self.stage = Stage::Blocked;
             self.turns = self.turns.saturating_add(1);
             Polled::Blocked { by, place }
+        }
+    }
+
+    /// One of the requests that it waits for: the last of the waiting order that it finds open, or else the one that blocks it.
+    pub fn last_open(&mut self, core: &Core) -> u64
+        requires table { self.old.table ≡ core.now.board.table }
+        requires blocked { (x : _) × (self.old.last ≡ Blocked x) }
+        ensures same { self.new ≡ record self.old { r = record self.old.r { ended = self.new.r.ended } } }
+        ensures ended { (p : ℕ) → Contains self.old.r.ended p → Contains self.new.r.ended p }
+        ensures waited_for { IsWaitedFor self.old.r result }
+    {
+        let latches = self.request.latches().list();
+        match last_open(
+            &core.board,
+            &mut self.seat,
+            &self.shot,
+            latches,
+            self.order.as_slice(),
+        ) {
+            Some(by) => by,
+            None => self.met.mark.by,
         }
     }
 
