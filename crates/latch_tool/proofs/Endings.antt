@@ -1,4 +1,4 @@
--- How runs end: what an input that is too long, one that was answered and one that spells a script come to.
+-- How runs end: what was read of a source, what was answered to it, and what a run that is done has written.
 use Rattle.std.proofs.Common.{◌≡◌, ◌≢◌, ℕ, ◌<◌, ◌⊎◌, inl, inr, Bool, codes, cond, IsTrue, List, [], length, Option, Some, None, IfSome, Result, Ok, Err}
 use Rattle.std.proofs.Common.{refl, sym, ap, subst, ◌∙◌}
 use Rattle.std.proofs.lemmas.Bool.{lt-ltb}
@@ -8,14 +8,15 @@ use Rattle.script.specs.Generated.{generated}
 use Rattle.script.specs.Reading.{all_at, lines, script_at}
 use Rattle.script.specs.Scripts.{IsScript, Spells}
 use Rattle.script.specs.declared.command.Command.{Command}
+use Rattle.script.specs.declared.limits.TheConstants.{TEXT_LIMIT}
 use Rattle.script.proofs.Laws.Scripts.{script_again, script_takes}
 use Rattle.step_run.specs.Steps.{step_output}
-use Rattle.latch_tool.specs.Outcomes.{AnswersStep, Ends, HasScript, IsRead, Reading, WritesAll, WritesMade, WritesPart, WritesSteps, decided}
-use Rattle.latch_tool.specs.Outcomes.{fault_line, made_line}
-use Rattle.latch_tool.specs.Outcomes.{step_answer}
+use Rattle.latch_tool.specs.Outcomes.{AnswersBy, Decides, Ends, HasRead, HasScript, IsRead, Reading, Shows, WritesAll, WritesMade, WritesPart, WritesReplay}
+use Rattle.latch_tool.specs.Outcomes.{WritesSteps, made_line}
 use Rattle.latch_tool.specs.Words.{reads}
-use Rattle.script.specs.declared.limits.TheConstants.{TEXT_LIMIT}
+use Rattle.latch_tool.specs.declared.form.Form.{Form}
 use Rattle.latch_tool.specs.declared.form.Form.TheVariants as form
+use Rattle.latch_tool.specs.declared.form.Layout.{Layout}
 use Rattle.latch_tool.specs.declared.status.Status.{Status}
 use Rattle.latch_tool.specs.declared.status.Status.TheVariants.{Done, Usage, Script, ReadFault, WriteFault, Memory}
 
@@ -24,9 +25,9 @@ abbrev Read : Type 0
 Read = Result (List Command) (ℕ × ℕ)
 
 -- an input that is too long has that fault
-decided_long : (input : List ℕ) → TEXT_LIMIT < length input → decided form.Step input ≡ (Script 0 18, fault_line 0 18)
+read_long : (input : List ℕ) → TEXT_LIMIT < length input → script_at input ≡ Err (0, 18)
 unfolding script_at
-decided_long input long = ap (λ (b : Bool). step_answer (cond {A = Read} b (Err (0, 18)) (all_at (lines input)))) (lt-ltb TEXT_LIMIT (length input) long)
+read_long input long = ap (λ (b : Bool). cond {A = Read} b (Err (0, 18)) (all_at (lines input))) (lt-ltb TEXT_LIMIT (length input) long)
 
 -- a source from which too much was taken has such an input
 long_input : (told now : Option (List ℕ)) → TakesMoreThan TEXT_LIMIT told now → IfSome told (λ bytes. TEXT_LIMIT < length bytes)
@@ -34,57 +35,88 @@ long_input : (told now : Option (List ℕ)) → TakesMoreThan TEXT_LIMIT told no
 long_input None now taken long = (taken.0, tt, taken.1)
 long_input (Some bytes) now taken long = (bytes, (refl, inr taken), long)
 
-pub answers_long : (source : Reading) → TakesMoreThan TEXT_LIMIT source.left source.left_after → IfSome source.left (λ bytes. TEXT_LIMIT < length bytes)
-    → AnswersStep source (Script 0 18) (fault_line 0 18)
-answers_long source taken long =
-    let read = long_input source.left source.left_after taken long in (read.0, read.1, decided_long read.0 read.2)
+pub has_read_long : (source : Reading) → TakesMoreThan TEXT_LIMIT source.left source.left_after → IfSome source.left (λ bytes. TEXT_LIMIT < length bytes)
+    → HasRead source (Err (0, 18))
+has_read_long source taken long =
+    let read = long_input source.left source.left_after taken long in (read.0, read.1, read_long read.0 read.2)
 
--- Facts about the status of an answer stand apart from its text: that computes without end.
-status_of : (answer : Status × List ℕ) (status : Status) (text : List ℕ) → answer ≡ (status, text) → answer.0 ≡ status
-status_of answer status text e = ap (λ (a : Status × List ℕ). a.0) e
+-- What words and an input decide is no fault of a device, and no want of memory.
+abbrev IsAnswer : Status → Type 0
+IsAnswer Done = Unit {0}
+IsAnswer Usage = Unit {0}
+IsAnswer (Script line cause) = Unit {0}
+IsAnswer ReadFault = ⊥
+IsAnswer WriteFault = ⊥
+IsAnswer Memory = ⊥
 
-IsNoStop : Status → Type 0
-IsNoStop status = (status ≢ ReadFault) × (status ≢ WriteFault) × (status ≢ Memory)
+script_answer : (Writes : List Command → List ℕ → Type 0) (read : Read) (status : Status) (text : List ℕ) → AnswersBy Writes read status text → IsAnswer status
+script_answer Writes (Ok commands) status text answers = subst IsAnswer (sym answers.0) tt
+script_answer Writes (Err (line, cause)) status text answers = subst IsAnswer (sym answers.0) tt
 
-done_is_no_stop : (status : Status) → Done ≡ status → IsNoStop status
-unfolding IsNoStop
-done_is_no_stop status e = ((λ s. cc), (λ s. cc), (λ s. cc))
+decided_answer : (of : Form) (input : List ℕ) (status : Status) (text : List ℕ) → Decides of input status text → IsAnswer status
+decided_answer form.Step input status text decides = script_answer (λ commands written. written ≡ step_output commands) (script_at input) status text decides
+decided_answer (form.Replay layout) input status text decides = script_answer (Shows layout) (script_at input) status text decides
+decided_answer (form.Make requests) input status text decides = subst IsAnswer (sym decides.0) tt
+decided_answer form.Help input status text decides = subst IsAnswer (sym decides.0) tt
+decided_answer form.Usage input status text decides = subst IsAnswer (sym decides.0) tt
 
-script_is_no_stop : (line cause : ℕ) (status : Status) → Script line cause ≡ status → IsNoStop status
-unfolding IsNoStop
-script_is_no_stop line cause status e = ((λ s. cc), (λ s. cc), (λ s. cc))
+-- what a form and an input decide is how the run ends
+decided_ends : (of : Form) (source : Reading) (input : List ℕ) (status : Status) (text : List ℕ)
+    → (IsTrue (reads of) → IsRead source.left source.left_after input) → Decides of input status text → Ends of source status text
+decided_ends of source input Done text read decides = (input, read, decides)
+decided_ends of source input Usage text read decides = (input, read, decides)
+decided_ends of source input (Script line cause) text read decides = (input, read, decides)
+decided_ends of source input ReadFault text read decides = absurd (decided_answer of input ReadFault text decides)
+decided_ends of source input WriteFault text read decides = absurd (decided_answer of input WriteFault text decides)
+decided_ends of source input Memory text read decides = absurd (decided_answer of input Memory text decides)
 
--- an answer is no fault of a device, and no want of memory
-answer_is_no_stop : (read : Read) (status : Status) (text : List ℕ) → step_answer read ≡ (status, text) → IsNoStop status
-answer_is_no_stop (Ok commands) status text e = done_is_no_stop status (status_of (step_answer (Ok commands)) status text e)
-answer_is_no_stop (Err (line, cause)) status text e = script_is_no_stop line cause status (status_of (step_answer (Err (line, cause))) status text e)
+-- what was read, and what is answered to that, is how `step` ends, and `replay`
+pub step_ends : (source : Reading) (read : Read) (status : Status) (text : List ℕ) → HasRead source read
+    → AnswersBy (λ commands written. written ≡ step_output commands) read status text → Ends form.Step source status text
+step_ends source read status text has answers =
+    decided_ends form.Step source has.0 status text (λ _. has.1)
+    (subst (λ (r : Read). AnswersBy (λ commands written. written ≡ step_output commands) r status text) (sym has.2) answers)
 
--- an answer is how a run of `step` ends
-pub answer_ends : (source : Reading) (status : Status) (text : List ℕ) → AnswersStep source status text → Ends form.Step source status text
-unfolding IsNoStop
-answer_ends source Done text a = (a.0, (λ _. a.1), a.2)
-answer_ends source (Script line cause) text a = (a.0, (λ _. a.1), a.2)
-answer_ends source Usage text a = (a.0, (λ _. a.1), a.2)
-answer_ends source ReadFault text a = absurd ((answer_is_no_stop (script_at a.0) ReadFault text a.2).0 refl)
-answer_ends source WriteFault text a = absurd ((answer_is_no_stop (script_at a.0) WriteFault text a.2).1 refl)
-answer_ends source Memory text a = absurd ((answer_is_no_stop (script_at a.0) Memory text a.2).2 refl)
+pub replay_ends : (layout : Layout) (source : Reading) (read : Read) (status : Status) (text : List ℕ) → HasRead source read
+    → AnswersBy (Shows layout) read status text → Ends (form.Replay layout) source status text
+replay_ends layout source read status text has answers =
+    decided_ends (form.Replay layout) source has.0 status text (λ _. has.1)
+    (subst (λ (r : Read). AnswersBy (Shows layout) r status text) (sym has.2) answers)
 
-script_is_not_done : (line cause : ℕ) → Script line cause ≢ Done
-script_is_not_done line cause e = cc
+-- how a run ends is no fault of the sink
+pub no_write_fault : (of : Form) (source : Reading) (status : Status) (text : List ℕ) → Ends of source status text → status ≢ WriteFault
+no_write_fault of source status text ends is = subst (λ (s : Status). Ends of source s text) is ends
 
--- `step` is done exactly where a script was read
-done_script : (read : Read) (text : List ℕ) → step_answer read ≡ (Done, text)
-    → (commands : List Command) × (read ≡ Ok commands) × (step_output commands ≡ text)
-done_script (Ok commands) text e = (commands, refl, ap (λ (a : Status × List ℕ). a.1) e)
-done_script (Err (line, cause)) text e = absurd (script_is_not_done line cause (status_of (step_answer (Err (line, cause))) Done text e))
+-- what is done was answered to a script
+done_script : (Writes : List Command → List ℕ → Type 0) (read : Read) (text : List ℕ) → AnswersBy Writes read Done text
+    → (commands : List Command) × (read ≡ Ok commands) × Writes commands text
+done_script Writes (Ok commands) text answers = (commands, refl, answers.1)
+done_script Writes (Err (line, cause)) text answers = absurd (no_script line cause answers.0)
+  where
+    no_script : (line cause : ℕ) → Done ≢ Script line cause
+    no_script line cause is = cc
 
 -- what `step` writes in the end is the output of the script that was read
-pub writes_steps : (source : Reading) (before now : Option (List ℕ)) → WritesAll form.Step source Done before now
-    → WritesSteps source before now
+pub writes_steps : (source : Reading) (before now : Option (List ℕ)) → WritesAll form.Step source Done before now → WritesSteps source before now
 writes_steps source before now w =
     let input = w.1.0 in
-    let script = done_script (script_at input) w.0 w.1.2 in
-    (input, script.0, w.1.1 refl, script_takes input script.0 script.1, subst (Appends before now) (sym script.2) w.2)
+    let script = done_script (λ commands written. written ≡ step_output commands) (script_at input) w.0 w.1.2 in
+    (input, script.0, w.1.1 refl, script_takes input script.0 script.1, subst (Appends before now) script.2 w.2)
+
+-- what `replay` writes in the end is the report of a history of a run of the script that was read
+pub writes_replay : (layout : Layout) (source : Reading) (before now : Option (List ℕ)) → WritesAll (form.Replay layout) source Done before now
+    → WritesReplay layout source before now
+writes_replay layout source before now w =
+    let script = done_script (Shows layout) (script_at w.1.0) w.0 w.1.2 in
+    record {
+      input = w.1.0;
+      commands = script.0;
+      history = script.2.0;
+      read = w.1.1 refl;
+      spelled = script_takes w.1.0 script.0 script.1;
+      run = script.2.1;
+      written = subst (Appends before now) script.2.2 w.2;
+    }
 
 -- the input that was read from a source that tells a script is that script
 read_script_is : (told now : Option (List ℕ)) (input bytes : List ℕ) (commands : List Command) → told ≡ Some bytes → Spells bytes commands
@@ -94,24 +126,31 @@ read_script_is (Some told) now input bytes commands e spells read =
     let same : input ≡ bytes = read.0 ∙ ap (λ (o : Option (List ℕ)). elim o [ None ↦ told | Some b ↦ b ]) e in
     ap script_at same ∙ script_again bytes commands spells
 
-script_is_done : (read : Read) (commands : List Command) (status : Status) (text : List ℕ) → read ≡ Ok commands
-    → step_answer read ≡ (status, text) → Done ≡ status
-script_is_done read commands status text is e = ap (λ (r : Read). (step_answer r).0) (sym is) ∙ status_of (step_answer read) status text e
+-- a form that reads a script is done with it
+script_is_done : (of : Form) (input : List ℕ) (commands : List Command) (status : Status) (text : List ℕ) → IsTrue (reads of) → script_at input ≡ Ok commands
+    → Decides of input status text → status ≡ Done
+script_is_done form.Step input commands status text r is decides =
+    (subst (λ (read : Read). AnswersBy (λ cs written. written ≡ step_output cs) read status text) is decides).0
+script_is_done (form.Replay layout) input commands status text r is decides =
+    (subst (λ (read : Read). AnswersBy (Shows layout) read status text) is decides).0
+script_is_done (form.Make requests) input commands status text r is decides = decides.0
+script_is_done form.Help input commands status text r is decides = decides.0
+script_is_done form.Usage input commands status text r is decides = absurd cc
 
--- where `step` has a script and the source does not fail, it is done or memory was refused
-ends_done : (source : Reading) (status : Status) (text : List ℕ) → HasScript source → ¬ CountsFault source.faults source.faults_after
-    → Ends form.Step source status text → (status ≡ Done) ⊎ (status ≡ Memory)
-ends_done source Memory text has sound ends = inr refl
-ends_done source ReadFault text has sound ends = absurd (sound ends.1)
-ends_done source WriteFault text has sound ends = absurd ends
-ends_done source status text has sound ends =
-    let is = read_script_is source.left source.left_after ends.0 has.0 has.1 has.2 has.3 (ends.1 refl) in
-    inl (sym (script_is_done (script_at ends.0) has.1 status text is ends.2))
+-- where a form has the script that it reads and the source does not fail, the run is done or memory was refused
+ends_done : (of : Form) (source : Reading) (status : Status) (text : List ℕ) → IsTrue (reads of) → HasScript source
+    → ¬ CountsFault source.faults source.faults_after → Ends of source status text → (status ≡ Done) ⊎ (status ≡ Memory)
+ends_done of source Memory text r has sound ends = inr refl
+ends_done of source ReadFault text r has sound ends = absurd (sound ends.1)
+ends_done of source WriteFault text r has sound ends = absurd ends
+ends_done of source status text r has sound ends =
+    let is = read_script_is source.left source.left_after ends.0 has.0 has.1 has.2 has.3 (ends.1 r) in
+    inl (script_is_done of ends.0 has.1 status text r is ends.2)
 
--- a run of `step` that has a script, and whose devices do not fail, is done or memory was refused
-pub step_done : (source : Reading) (status : Status) (before now : Option (List ℕ)) → HasScript source → ¬ CountsFault source.faults source.faults_after
-    → WritesAll form.Step source status before now → (status ≡ Done) ⊎ (status ≡ Memory)
-step_done source status before now has sound w = ends_done source status w.0 has sound w.1
+-- a run of a form that has the script that it reads, and whose devices do not fail, is done or memory was refused
+pub script_done : (of : Form) (source : Reading) (status : Status) (before now : Option (List ℕ)) → IsTrue (reads of) → HasScript source
+    → ¬ CountsFault source.faults source.faults_after → WritesAll of source status before now → (status ≡ Done) ⊎ (status ≡ Memory)
+script_done of source status before now r has sound w = ends_done of source status w.0 r has sound w.1
 
 -- ---- `make` and `help`, which read nothing
 
@@ -122,14 +161,14 @@ make_reads_nothing requests r = cc
 pub made_all : (source : Reading) (requests : ℕ) (status : Status) (text : List ℕ) (before now : Option (List ℕ)) → text ≡ made_line requests
     → status ≡ Done → Appends before now text → WritesAll (form.Make requests) source status before now
 made_all source requests status text before now is done written =
-    let ends : Ends (form.Make requests) source Done text = ([], (λ r. absurd (make_reads_nothing requests r)), ap (λ (t : List ℕ). (Done, t)) (sym is)) in
+    let ends : Ends (form.Make requests) source Done text = ([], (λ r. absurd (make_reads_nothing requests r)), (refl, is)) in
     subst (λ (s : Status). WritesAll (form.Make requests) source s before now) (sym done) (text, ends, written)
 
 -- a front of it was written
 pub made_part : (source : Reading) (requests : ℕ) (text : List ℕ) (before now : Option (List ℕ)) → text ≡ made_line requests
     → AppendsPart before now text → WritesPart (form.Make requests) source before now
 made_part source requests text before now is written =
-    (Done, text, ([], (λ r. absurd (make_reads_nothing requests r)), ap (λ (t : List ℕ). (Done, t)) (sym is)), written)
+    (Done, text, ([], (λ r. absurd (make_reads_nothing requests r)), (refl, is)), written)
 
 pub done_is_no_write_fault : (status : Status) → status ≡ Done → status ≢ WriteFault
 done_is_no_write_fault status done e = let d : Done ≡ WriteFault = sym done ∙ e in absurd cc
@@ -149,3 +188,6 @@ memory_part source requests before now written = (Memory, codes "out of memory\n
 
 pub same_number : (m n : ℕ) → form.Make m ≡ form.Make n → m ≡ n
 same_number m n e = cc
+
+pub same_layout : (l m : Layout) → form.Replay l ≡ form.Replay m → l ≡ m
+same_layout l m e = cc

@@ -1,3 +1,4 @@
 pub mod Words
+pub mod Replays
 pub mod Outcomes
 pub mod Codes

@@ -1,17 +1,28 @@
 -- How a run ends and what it writes: what its words and its input decide, and what becomes of that by what the devices show.
 use Rattle.std.specs.Prelude.{◌≡◌, ℕ, ◌++◌, ◌⊎◌, IsTrue, List, [], ◌∷◌, Option, Some, IfSome, Result, Ok, Err, codes, decimal}
 use Rattle.std.specs.Io.KnownBytes.{Appends}
+use Rattle.latch_model.specs.declared.history.Entry.{Entry}
 use Rattle.port_io.specs.Devices.{AppendsPart, CountsFault, TakesMoreThan}
+use Rattle.report.specs.Json.{report_json}
+use Rattle.report.specs.Reports.{report_text}
 use Rattle.script.specs.Generated.{generated}
 use Rattle.script.specs.Reading.{script_at}
 use Rattle.script.specs.Scripts.{IsScript, Spells}
 use Rattle.script.specs.declared.command.Command.{Command}
+use Rattle.script.specs.declared.limits.TheConstants.{TEXT_LIMIT}
 use Rattle.step_run.specs.Lines.{last_line}
 use Rattle.step_run.specs.Steps.{step_output}
-use Rattle.script.specs.declared.limits.TheConstants.{TEXT_LIMIT}
+use Rattle.latch_tool.specs.Replays.{IsRunOf}
 use Rattle.latch_tool.specs.Words.{reads, takes_memory}
 use Rattle.latch_tool.specs.declared.form.Form.{Form}
 use Rattle.latch_tool.specs.declared.form.Form.TheVariants as form
+use Rattle.latch_tool.specs.declared.form.Layout.{Layout}
+use Rattle.latch_tool.specs.declared.form.Layout.TheVariants as layouts
+use Rattle.latch_tool.specs.declared.run.Answer.{Answer}
+use Rattle.latch_tool.specs.declared.run.Input.{Input}
+use Rattle.latch_tool.specs.declared.run.Input.TheVariants as inputs
+use Rattle.latch_tool.specs.declared.run.Stop.{Stop}
+use Rattle.latch_tool.specs.declared.run.Stop.TheVariants as stops
 use Rattle.latch_tool.specs.declared.status.Status.{Status}
 use Rattle.latch_tool.specs.declared.status.Status.TheVariants.{Done, Usage, Script, ReadFault, WriteFault, Memory}
 
@@ -23,21 +34,32 @@ usage_line = codes "usage: latch step | replay [--json] | make N | help\n"
 abbrev pub fault_line : ℕ → ℕ → List ℕ
 fault_line line cause = codes "script " ++ decimal line ++ 32 ∷ decimal cause ++ 10 ∷ []
 
--- What `step` answers: the step output of the script that was read, or the line of the input's first fault.
-abbrev pub step_answer : Result (List Command) (ℕ × ℕ) → Status × List ℕ
-step_answer (Ok commands) = (Done, step_output commands)
-step_answer (Err (line, cause)) = (Script line cause, fault_line line cause)
-
 -- What `make` writes: the last line of the step output of the generated script of so many requests.
 abbrev pub made_line : ℕ → List ℕ
 made_line requests = last_line (step_output (generated requests))
 
--- What a form and an input decide, as long as no device fails and memory suffices: the status, and the text that is written.
-abbrev pub decided : Form → List ℕ → Status × List ℕ
-decided form.Step input = step_answer (script_at input)
-decided (form.Make requests) input = (Done, made_line requests)
-decided form.Help input = (Done, usage_line)
-decided form.Usage input = (Usage, usage_line)
+-- the report of a history in a layout
+abbrev pub report_of : Layout → List Entry → List ℕ
+report_of layouts.Lines h = report_text h
+report_of layouts.Json h = report_json h
+
+-- What `replay` may write for a script: the report of a history of its run.
+abbrev pub Shows : Layout → List Command → List ℕ → Type 0
+Shows layout commands text = (h : List Entry) × IsRunOf commands h × (text ≡ report_of layout h)
+
+-- What a form answers that reads a script: for a script a text that it may write, and for an input that is none the line of its first fault.
+abbrev pub AnswersBy : (List Command → List ℕ → Type 0) → Result (List Command) (ℕ × ℕ) → Status → List ℕ → Type 0
+AnswersBy Writes (Ok commands) status text = (status ≡ Done) × Writes commands text
+AnswersBy Writes (Err (line, cause)) status text = (status ≡ Script line cause) × (text ≡ fault_line line cause)
+
+-- What a form and an input decide, as long as no device fails and memory suffices: the status, and the text that is written. Which report
+-- `replay` writes depends on the schedule of its sessions; all else is decided.
+abbrev pub Decides : Form → List ℕ → Status → List ℕ → Type 0
+Decides form.Step input status text = AnswersBy (λ commands written. written ≡ step_output commands) (script_at input) status text
+Decides (form.Replay layout) input status text = AnswersBy (Shows layout) (script_at input) status text
+Decides (form.Make requests) input status text = (status ≡ Done) × (text ≡ made_line requests)
+Decides form.Help input status text = (status ≡ Done) × (text ≡ usage_line)
+Decides form.Usage input status text = (status ≡ Usage) × (text ≡ usage_line)
 
 -- What a source shows before a call and after it: the bytes that are left, where it tells them, and its count of faults.
 pub record Reading : Type 0 where
@@ -55,9 +77,13 @@ reading left faults before now = record { left = left before; left_after = left 
 abbrev pub IsRead : Option (List ℕ) → Option (List ℕ) → List ℕ → Type 0
 IsRead before now input = IfSome before (λ bytes. (input ≡ bytes) × ((now ≡ Some []) ⊎ TakesMoreThan TEXT_LIMIT before now))
 
--- What the input that was read decides at `step`: this status and this text.
-abbrev pub AnswersStep : Reading → Status → List ℕ → Type 0
-AnswersStep source status text = (input : List ℕ) × IsRead source.left source.left_after input × (decided form.Step input ≡ (status, text))
+-- This was read from a source: a script, or the first fault of an input that is none.
+abbrev pub HasRead : Reading → Result (List Command) (ℕ × ℕ) → Type 0
+HasRead source read = (input : List ℕ) × IsRead source.left source.left_after input × (script_at input ≡ read)
+
+abbrev pub as_read : Input → Result (List Command) (ℕ × ℕ)
+as_read (inputs.Script commands) = Ok commands
+as_read (inputs.Bad fault) = Err (fault.line, fault.cause)
 
 -- How a run ends while the sink takes what is written: the status, and the whole text. It is what the form and its input decide, unless
 -- the source failed or memory was refused.
@@ -65,7 +91,13 @@ abbrev pub Ends : Form → Reading → Status → List ℕ → Type 0
 Ends form source ReadFault text = IsTrue (reads form) × CountsFault source.faults source.faults_after × (text ≡ codes "read fault\n")
 Ends form source Memory text = IsTrue (takes_memory form) × (text ≡ codes "out of memory\n")
 Ends form source WriteFault text = ⊥
-Ends form source status text = (input : List ℕ) × (IsTrue (reads form) → IsRead source.left source.left_after input) × (decided form input ≡ (status, text))
+Ends form source status text = (input : List ℕ) × (IsTrue (reads form) → IsRead source.left source.left_after input) × Decides form input status text
+
+-- How a run ends by what was answered.
+abbrev pub EndsBy : Form → Reading → Result Answer Stop → Type 0
+EndsBy form source (Ok answer) = Ends form source answer.status answer.text.items
+EndsBy form source (Err stops.ReadFault) = Ends form source ReadFault (codes "read fault\n")
+EndsBy form source (Err stops.Memory) = Ends form source Memory (codes "out of memory\n")
 
 -- The whole text of how the run ended was written.
 abbrev pub WritesAll : Form → Reading → Status → Option (List ℕ) → Option (List ℕ) → Type 0
@@ -80,6 +112,16 @@ abbrev pub WritesSteps : Reading → Option (List ℕ) → Option (List ℕ) →
 WritesSteps source before now =
     (input : List ℕ) × (commands : List Command) × IsRead source.left source.left_after input × Spells input commands
     × Appends before now (step_output commands)
+
+-- The report of a history of a run of the script that the source's bytes spell was written.
+pub record WritesReplay (layout : Layout) (source : Reading) (before now : Option (List ℕ)) : Type 0 where
+  pub input : List ℕ
+  pub commands : List Command
+  pub history : List Entry
+  pub read : IsRead source.left source.left_after input
+  pub spelled : Spells input commands
+  pub run : IsRunOf commands history
+  pub written : Appends before now (report_of layout history)
 
 -- The last line of the step output of a generated script was written, and that is a script.
 abbrev pub WritesMade : ℕ → Option (List ℕ) → Option (List ℕ) → Type 0

@@ -4,18 +4,24 @@ ghost use Rattle.std.specs.String.{string_bytes};
 ghost use Rattle.std.specs.Io.KnownBytes.{Appends};
 ghost use Rattle.port_io.specs.Devices.{AppendsPart, CountsFault};
 ghost use Rattle.script.specs.Generated.{generated};
+ghost use Rattle.script.specs.Reading.{script_at};
 ghost use Rattle.step_run.specs.Lines.{EndsLine};
 ghost use Rattle.step_run.specs.Steps.{step_output};
-ghost use Rattle.latch_tool.specs.Outcomes.{AnswersStep, HasScript, Reading, WritesAll, WritesMade, WritesPart, WritesSteps, decided, fault_line};
-ghost use Rattle.latch_tool.specs.Outcomes.{reading, usage_line};
-ghost use Rattle.latch_tool.specs.Words.{form_of, reads};
+ghost use Rattle.latch_tool.specs.Outcomes.{EndsBy, HasRead, HasScript, Reading, Shows, WritesAll, WritesMade, WritesPart, WritesReplay, WritesSteps};
+ghost use Rattle.latch_tool.specs.Outcomes.{as_read, fault_line, reading, usage_line};
+ghost use Rattle.latch_tool.specs.Words.{form_of, reads, starts_workers};
+ghost use Rattle.latch_tool.specs.declared.form.Form.{Form};
 ghost use Rattle.latch_tool.specs.declared.run.Stop.TheVariants.{Memory as memory};
 
-use crate::form::{Form, form_of};
+use crate::form::{Form, Layout, form_of};
 use crate::status::Status;
 use itoa::Buffer;
+use latch_manager::gate::NoGate;
 use port_io::{Failed, ReadFault, Sink, Source, read_all, write_piece};
-use script::fault::ReadScript;
+use replay::run::replay as run_sessions;
+use report::{render, render_json};
+use script::command::Script;
+use script::fault::{ReadScript, ScriptFault};
 use script::spelling::generated_is_a_script;
 use script::{MAKE_LIMIT, TEXT_LIMIT, make_script, read_script};
 use std::alloc::{AllocError, Global};
@@ -32,8 +38,9 @@ const NO_MEMORY: &[u8] = b"out of memory\n";
 /// Runs the program on these words, and answers how it ended.
 ///
 /// The words are those behind the program's name. `step` reads a script from `source`, runs it step by step and writes its output to
-/// `sink`. `make N` does so with the generated script of N requests and writes the last line alone. `help` writes the usage line, as every
-/// list of words does that is no form. The lines of faults go to the sink as well. The output is built whole and then written.
+/// `sink`. `replay` runs the script with a worker for each session and writes the report of their history, with `--json` behind it as JSON.
+/// `make N` runs the generated script of N requests step by step and writes the last line alone. `help` writes the usage line, as every list
+/// of words does that is no form. The lines of faults go to the sink as well. The output is built whole and then written.
 pub fn run<R: Threads + Wait + Sync, S: Source, O: Sink>(
     rt: &R,
     alloc: Global,
@@ -59,6 +66,11 @@ pub fn run<R: Threads + Wait + Sync, S: Source, O: Sink>(
     ensures steps { form_of (map string_bytes words.now) ≡ Form.Step → result ≡ Status.Done →
         WritesSteps (reading S.left S.faults source.old source.new) (O.written sink.old) (O.written sink.new) }
 
+    // What `replay` writes in the end is the report of one history of a run of the script that was read, whatever the schedule of its
+    // sessions was: a legal one, in which each session's calls stand once and in their order, and what else `IsRunOf` says.
+    ensures replays { (layout : _) → form_of (map string_bytes words.now) ≡ Form.Replay layout → result ≡ Status.Done →
+        WritesReplay layout (reading S.left S.faults source.old source.new) (O.written sink.old) (O.written sink.new) }
+
     // What `make` writes in the end is the last line of the step output of the generated script of so many requests.
     ensures makes { (n : _) → form_of (map string_bytes words.now) ≡ Form.Make n → result ≡ Status.Done →
         WritesMade n (O.written sink.old) (O.written sink.new) }
@@ -73,17 +85,22 @@ pub fn run<R: Threads + Wait + Sync, S: Source, O: Sink>(
         ¬ CountsFault (S.faults source.old) (S.faults source.new) → ¬ CountsFault (O.faults sink.old) (O.faults sink.new) →
         (result ≡ Status.Done) ⊎ (result ≡ Status.Memory) }
 {
-    let _ = rt;
-    run_still(alloc, words, source, sink)
+    match form_of(words) {
+        Form::Replay { layout } => replay(rt, alloc, layout, source, sink),
+        Form::Step | Form::Make { .. } | Form::Help | Form::Usage => {
+            run_still(alloc, words, source, sink)
+        }
+    }
 }
 
-/// The same for all words but those of a form that starts workers, of which there is none yet. It returns.
+/// The same for the words of a form that starts no workers, and for those that are no form. It returns.
 pub fn run_still<S: Source, O: Sink>(
     alloc: Global,
     words: &[String],
     source: &mut S,
     sink: &mut O,
 ) -> Status
+    requires { starts_workers (form_of (map string_bytes words.now)) ≡ false }
     ensures written { result ≢ Status.WriteFault →
         WritesAll (form_of (map string_bytes words.now)) (reading S.left S.faults source.old source.new) result (O.written sink.old) (O.written sink.new) }
     ensures part { result ≡ Status.WriteFault →
@@ -103,10 +120,18 @@ pub fn run_still<S: Source, O: Sink>(
 {
     match form_of(words) {
         Form::Step => step(alloc, source, sink),
+        Form::Replay { layout: _ } => unreachable!(),
         Form::Make { requests } => make(alloc, requests, sink),
         Form::Help => tell(sink, Status::Done, USAGE),
         Form::Usage => tell(sink, Status::Usage, USAGE),
     }
+}
+
+/// What was read: a script, or an input that is none, with its first fault.
+#[derive(Drop)]
+enum Input {
+    Script(Script),
+    Bad(ScriptFault),
 }
 
 /// What an input decides: a status and the text that is written.
@@ -149,10 +174,93 @@ fn step<S: Source, O: Sink>(alloc: Global, source: &mut S, sink: &mut O) -> Stat
         WritesPart Form.Step (reading S.left S.faults source.old source.new) (O.written sink.old) (O.written sink.new) }
     ensures write_fault { result ≡ Status.WriteFault → CountsFault (O.faults sink.old) (O.faults sink.new) }
 {
-    match read_and_answer(alloc, source) {
-        Ok(answer) => tell(sink, answer.status, answer.text.as_slice()),
-        Err(Stop::ReadFault) => tell(sink, Status::ReadFault, b"read fault\n"),
-        Err(Stop::Memory) => tell(sink, Status::Memory, NO_MEMORY),
+    let answered = step_answer(alloc, source);
+    finish(sink, answered)
+}
+
+// Reads a script, runs it with a worker for each session and writes the report of their history.
+fn replay<R: Threads + Wait + Sync, S: Source, O: Sink>(
+    rt: &R,
+    alloc: Global,
+    layout: Layout,
+    source: &mut S,
+    sink: &mut O,
+) -> Status
+    ensures written { result ≢ Status.WriteFault →
+        WritesAll (Form.Replay layout) (reading S.left S.faults source.old source.new) result (O.written sink.old) (O.written sink.new) }
+    ensures part { result ≡ Status.WriteFault →
+        WritesPart (Form.Replay layout) (reading S.left S.faults source.old source.new) (O.written sink.old) (O.written sink.new) }
+    ensures write_fault { result ≡ Status.WriteFault → CountsFault (O.faults sink.old) (O.faults sink.new) }
+{
+    let answered = replay_answer(rt, alloc, layout, source);
+    finish(sink, answered)
+}
+
+// What `step` answers to the input.
+fn step_answer<S: Source>(alloc: Global, source: &mut S) -> Result<Answer, Stop>
+    ensures { EndsBy Form.Step (reading S.left S.faults source.old source.new) result }
+{
+    match read_input(alloc, source)? {
+        Input::Script(script) => Ok(done(run_step(alloc, &script)?)),
+        Input::Bad(fault) => Ok(bad(alloc, fault)?),
+    }
+}
+
+// What `replay` answers to the input.
+fn replay_answer<R: Threads + Wait + Sync, S: Source>(
+    rt: &R,
+    alloc: Global,
+    layout: Layout,
+    source: &mut S,
+) -> Result<Answer, Stop>
+    ensures { EndsBy (Form.Replay layout) (reading S.left S.faults source.old source.new) result }
+{
+    match read_input(alloc, source)? {
+        Input::Script(script) => Ok(done(shown(rt, alloc, layout, &script)?)),
+        Input::Bad(fault) => Ok(bad(alloc, fault)?),
+    }
+}
+
+// The report of the history of a script's sessions.
+fn shown<R: Threads + Wait + Sync>(
+    rt: &R,
+    alloc: Global,
+    layout: Layout,
+    script: &Script,
+) -> Result<Vec<u8>, Stop>
+    ensures shows { IfOk result (λ text. Shows layout script.now text.items) }
+    ensures memory { IfErr result (λ stop. stop ≡ Stop.Memory) }
+{
+    let history = run_sessions(rt, alloc, script, &NoGate)?;
+    match layout {
+        Layout::Lines => Ok(render(alloc, &history)?),
+        Layout::Json => Ok(render_json(alloc, &history)?),
+    }
+}
+
+// Reads the input.
+fn read_input<S: Source>(alloc: Global, source: &mut S) -> Result<Input, Stop>
+    ensures read { IfOk result (λ i. HasRead (reading S.left S.faults source.old source.new) (as_read i)) }
+    ensures read_fault { IsErrOf result Stop.ReadFault → CountsFault (S.faults source.old) (S.faults source.new) }
+{
+    match read_all(alloc, source, TEXT_LIMIT) {
+        Ok(input) => script_of(alloc, input.as_slice()),
+        // The input as a whole is too long, so no line is named.
+        Err(ReadFault::TooLong) => Ok(Input::Bad(ScriptFault { line: 0, cause: 18 })),
+        Err(ReadFault::Failed) => Err(Stop::ReadFault),
+        Err(ReadFault::Memory) => Err(Stop::Memory),
+    }
+}
+
+// The script that these bytes spell, or their first fault.
+fn script_of(alloc: Global, bytes: &[u8]) -> Result<Input, Stop>
+    ensures read { IfOk result (λ i. script_at bytes.now ≡ as_read i) }
+    ensures memory { IfErr result (λ stop. stop ≡ Stop.Memory) }
+{
+    match read_script(alloc, bytes) {
+        Ok(script) => Ok(Input::Script(script)),
+        Err(ReadScript::Bad(fault)) => Ok(Input::Bad(fault)),
+        Err(ReadScript::Memory) => Err(Stop::Memory),
     }
 }
 
@@ -183,39 +291,21 @@ fn made_output(alloc: Global, requests: u32) -> Result<Vec<u8>, RunFault>
     run_step(alloc, &script)
 }
 
-// Reads the input and answers it.
-fn read_and_answer<S: Source>(alloc: Global, source: &mut S) -> Result<Answer, Stop>
-    ensures answered { IfOk result (λ a. AnswersStep (reading S.left S.faults source.old source.new) a.status a.text.items) }
-    ensures read_fault { IsErrOf result Stop.ReadFault → CountsFault (S.faults source.old) (S.faults source.new) }
+// The answer that has an output.
+fn done(output: Vec<u8>) -> Answer
+    ensures { (result.status ≡ Status.Done) × (result.text.items ≡ output.items) }
 {
-    match read_all(alloc, source, TEXT_LIMIT) {
-        Ok(input) => answer_to(alloc, input.as_slice()),
-        // The input as a whole is too long, so no line is named.
-        Err(ReadFault::TooLong) => Ok(fault_answer(alloc, 0, 18)?),
-        Err(ReadFault::Failed) => Err(Stop::ReadFault),
-        Err(ReadFault::Memory) => Err(Stop::Memory),
-    }
-}
-
-// What an input decides that is no longer than a script may be.
-fn answer_to(alloc: Global, input: &[u8]) -> Result<Answer, Stop>
-    ensures answered { IfOk result (λ a. decided Form.Step input.now ≡ (a.status, a.text.items)) }
-    ensures memory { IfErr result (λ stop. stop ≡ Stop.Memory) }
-{
-    match read_script(alloc, input) {
-        Ok(script) => Ok(Answer {
-            status: Status::Done,
-            text: run_step(alloc, &script)?,
-        }),
-        Err(ReadScript::Bad(fault)) => Ok(fault_answer(alloc, fault.line, fault.cause)?),
-        Err(ReadScript::Memory) => Err(Stop::Memory),
+    Answer {
+        status: Status::Done,
+        text: output,
     }
 }
 
 // The answer that names a fault of the input.
-fn fault_answer(alloc: Global, line: u32, cause: u32) -> Result<Answer, AllocError>
-    ensures { IfOk result (λ a. (a.status ≡ Status.Script line cause) × (a.text.items ≡ fault_line line cause)) }
+fn bad(alloc: Global, fault: ScriptFault) -> Result<Answer, AllocError>
+    ensures { IfOk result (λ a. (a.status ≡ Status.Script fault.line fault.cause) × (a.text.items ≡ fault_line fault.line fault.cause)) }
 {
+    let ScriptFault { line, cause } = fault;
     Ok(Answer {
         status: Status::Script { line, cause },
         text: fault_text(alloc, line, cause)?,
@@ -231,6 +321,22 @@ fn fault_text(alloc: Global, line: u32, cause: u32) -> Result<Vec<u8>, AllocErro
     text.extend_from_slice(Buffer::new().format(cause).as_bytes())?;
     text.extend_from_slice(b"\n")?;
     Ok(text)
+}
+
+// Writes what was answered, or why nothing was.
+fn finish<O: Sink>(sink: &mut O, answered: Result<Answer, Stop>) -> Status
+    requires { IfOk answered (λ a. a.status ≢ Status.WriteFault) }
+    ensures written { (form : Form) (source : Reading) → EndsBy form source answered → result ≢ Status.WriteFault →
+        WritesAll form source result (O.written sink.old) (O.written sink.new) }
+    ensures part { (form : Form) (source : Reading) → EndsBy form source answered → result ≡ Status.WriteFault →
+        WritesPart form source (O.written sink.old) (O.written sink.new) }
+    ensures write_fault { result ≡ Status.WriteFault → CountsFault (O.faults sink.old) (O.faults sink.new) }
+{
+    match answered {
+        Ok(answer) => tell(sink, answer.status, answer.text.as_slice()),
+        Err(Stop::ReadFault) => tell(sink, Status::ReadFault, b"read fault\n"),
+        Err(Stop::Memory) => tell(sink, Status::Memory, NO_MEMORY),
+    }
 }
 
 // Writes the text of a status, and answers that status, or that the sink failed.

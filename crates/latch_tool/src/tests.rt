@@ -1,11 +1,13 @@
 // Worked scripts, whole: what the program is given, what it answers and what it writes. The lines were worked out from the rules, apart
 // from the program.
-use crate::run::run_still;
+use crate::run::run;
 use crate::status::Status;
 use port_io::{MemSink, MemSource};
 use std::alloc::{AllocError, Global};
 use std::process::Abort;
+use std::sync::Wait;
 use std::test::Fail;
+use std::thread::Threads;
 
 /// What the program answered, and what it wrote.
 #[derive(Drop)]
@@ -16,7 +18,8 @@ struct Outcome {
 
 // Runs the program on these words, with a source that gives 7 bytes a read and a sink that takes 5 a write. The calls of these with
 // the listed numbers fail.
-fn ran(
+fn ran<R: Threads + Wait + Sync>(
+    rt: &R,
     alloc: Global,
     words: &[&str],
     input: &[u8],
@@ -25,10 +28,11 @@ fn ran(
 ) -> Result<Outcome, AllocError> {
     let bytes = Vec::from_slice(alloc, input)?;
     let source = MemSource::new(bytes, 7, Vec::from_slice(alloc, reads)?);
-    ran_on(alloc, words, source, writes)
+    ran_on(rt, alloc, words, source, writes)
 }
 
-fn ran_on(
+fn ran_on<R: Threads + Wait + Sync>(
+    rt: &R,
     alloc: Global,
     words: &[&str],
     source: MemSource,
@@ -41,31 +45,36 @@ fn ran_on(
     let mut source = source;
     let room = Vec::with_capacity(alloc, 4096)?;
     let mut sink = MemSink::new(room, 5, Vec::from_slice(alloc, writes)?);
-    let status = run_still(alloc, texts.as_slice(), &mut source, &mut sink);
+    let status = run(rt, alloc, texts.as_slice(), &mut source, &mut sink);
     let written = Vec::from_slice(alloc, sink.written())?;
     Ok(Outcome { status, written })
 }
 
 // Tells that a script of these commands writes these lines.
-fn writes(rt: &impl Abort, alloc: Global, commands: &str, lines: &str) -> Result<(), AllocError> {
+fn writes<R: Abort + Threads + Wait + Sync>(
+    rt: &R,
+    alloc: Global,
+    commands: &str,
+    lines: &str,
+) -> Result<(), AllocError> {
     let mut input = Vec::from_slice(alloc, b"latch script 1\n")?;
     input.extend_from_slice(commands.as_bytes())?;
     input.extend_from_slice(b"end\n")?;
-    let ran = ran(alloc, &["step"], input.as_slice(), &[], &[])?;
+    let ran = ran(rt, alloc, &["step"], input.as_slice(), &[], &[])?;
     assert!(rt; ran.status == Status::Done, "{commands}");
     assert!(rt; ran.written.as_slice() == lines.as_bytes(), "{commands}");
     Ok(())
 }
 
 // Tells that an input is refused at this line with this cause.
-fn refuses(
-    rt: &impl Abort,
+fn refuses<R: Abort + Threads + Wait + Sync>(
+    rt: &R,
     alloc: Global,
     input: &[u8],
     line: u32,
     cause: u32,
 ) -> Result<(), AllocError> {
-    let ran = ran(alloc, &["step"], input, &[], &[])?;
+    let ran = ran(rt, alloc, &["step"], input, &[], &[])?;
     assert!(rt; ran.status == Status::Script { line, cause });
     let text = format!(in alloc; "script {line} {cause}\n")?;
     assert!(rt; ran.written.as_slice() == text.as_bytes());
@@ -73,8 +82,8 @@ fn refuses(
 }
 
 // Tells what comes of devices of which these calls fail, where the script is that of the stored run.
-fn fails(
-    rt: &impl Abort,
+fn fails<R: Abort + Threads + Wait + Sync>(
+    rt: &R,
     alloc: Global,
     reads: &[u64],
     writes: &[u64],
@@ -82,7 +91,7 @@ fn fails(
     written: &[u8],
 ) -> Result<(), AllocError> {
     let input = b"latch script 1\nacquire 1 a wait w:61\nrelease a\nend\n";
-    let ran = ran(alloc, &["step"], input, reads, writes)?;
+    let ran = ran(rt, alloc, &["step"], input, reads, writes)?;
     assert!(rt; ran.status == status);
     assert!(rt; ran.written.as_slice() == written);
     Ok(())
@@ -404,11 +413,11 @@ fn each_status_has_its_line(rt: HostRuntime) -> Result<(), Fail> {
     let usage = b"usage: latch step | replay [--json] | make N | help\n";
     let other: [&[&str]; 4] = [&[], &["steps"], &["Step"], &["step", "step"]];
     for words in other {
-        let ran_bad = ran(alloc, words, b"", &[0], &[])?;
+        let ran_bad = ran(&rt, alloc, words, b"", &[0], &[])?;
         assert!(rt; ran_bad.status == Status::Usage);
         assert!(rt; ran_bad.written.as_slice() == usage.as_slice());
     }
-    let ran_unwritten = ran(alloc, &["bad"], b"", &[], &[0])?;
+    let ran_unwritten = ran(&rt, alloc, &["bad"], b"", &[], &[0])?;
     assert!(rt; ran_unwritten.status == Status::WriteFault);
     assert!(rt; ran_unwritten.written.is_empty());
     Ok(())
@@ -419,7 +428,7 @@ fn an_input_may_come_byte_by_byte(rt: HostRuntime) -> Result<(), Fail> {
     let alloc = rt.alloc();
     let input = b"latch script 1\nacquire 1 a wait w:61\nrelease a\nend\n";
     let source = MemSource::new(Vec::from_slice(alloc, input)?, 1, Vec::new(alloc));
-    let ran = ran_on(alloc, &["step"], source, &[])?;
+    let ran = ran_on(&rt, alloc, &["step"], source, &[])?;
     assert!(rt; ran.status == Status::Done);
     let output =
         b"a 1 before -\na granted 1\na ended\nrequests 1 granted 1 checked 0 poisoned 0 cancelled 0 never 0\n";
@@ -480,9 +489,13 @@ fn an_input_that_is_no_script_is_refused(rt: HostRuntime) -> Result<(), Fail> {
 }
 
 // Tells that these words are no form.
-fn is_no_form(rt: &impl Abort, alloc: Global, words: &[&str]) -> Result<(), AllocError> {
+fn is_no_form<R: Abort + Threads + Wait + Sync>(
+    rt: &R,
+    alloc: Global,
+    words: &[&str],
+) -> Result<(), AllocError> {
     let usage = b"usage: latch step | replay [--json] | make N | help\n";
-    let ran = ran(alloc, words, b"", &[], &[])?;
+    let ran = ran(rt, alloc, words, b"", &[], &[])?;
     assert!(rt; ran.status == Status::Usage);
     assert!(rt; ran.written.as_slice() == usage.as_slice());
     Ok(())
@@ -491,14 +504,14 @@ fn is_no_form(rt: &impl Abort, alloc: Global, words: &[&str]) -> Result<(), Allo
 #[test]
 fn make_writes_the_last_line_of_a_generated_script(rt: HostRuntime) -> Result<(), Fail> {
     let alloc = rt.alloc();
-    let one = ran(alloc, &["make", "1"], b"", &[0], &[])?;
+    let one = ran(&rt, alloc, &["make", "1"], b"", &[0], &[])?;
     assert!(rt; one.status == Status::Done);
     let line = b"requests 1 granted 1 checked 0 poisoned 0 cancelled 0 never 0\n";
     assert!(rt; one.written.as_slice() == line.as_slice());
-    let most = ran(alloc, &["make", "20000"], b"", &[], &[])?;
+    let most = ran(&rt, alloc, &["make", "20000"], b"", &[], &[])?;
     assert!(rt; most.status == Status::Done);
     assert!(rt; most.written.starts_with(b"requests 20000 "));
-    let again = ran(alloc, &["make", "20000"], b"", &[], &[])?;
+    let again = ran(&rt, alloc, &["make", "20000"], b"", &[], &[])?;
     assert!(rt; most.written.as_slice() == again.written.as_slice());
     Ok(())
 }
@@ -507,10 +520,10 @@ fn make_writes_the_last_line_of_a_generated_script(rt: HostRuntime) -> Result<()
 fn help_writes_the_usage_line(rt: HostRuntime) -> Result<(), Fail> {
     let alloc = rt.alloc();
     let usage = b"usage: latch step | replay [--json] | make N | help\n";
-    let help = ran(alloc, &["help"], b"", &[0], &[])?;
+    let help = ran(&rt, alloc, &["help"], b"", &[0], &[])?;
     assert!(rt; help.status == Status::Done);
     assert!(rt; help.written.as_slice() == usage.as_slice());
-    let unwritten = ran(alloc, &["help"], b"", &[], &[1])?;
+    let unwritten = ran(&rt, alloc, &["help"], b"", &[], &[1])?;
     assert!(rt; unwritten.status == Status::WriteFault);
     assert!(rt; unwritten.written.as_slice() == b"usage".as_slice());
     Ok(())
@@ -535,6 +548,77 @@ fn words_more_or_less_are_usage(rt: HostRuntime) -> Result<(), Fail> {
     is_no_form(&rt, alloc, &["1", "make"])?;
     is_no_form(&rt, alloc, &["help", "help"])?;
     is_no_form(&rt, alloc, &["replay", "--json", "--json"])?;
+    is_no_form(&rt, alloc, &["replay", "--json=x"])?;
+    is_no_form(&rt, alloc, &["--json", "replay"])?;
+    is_no_form(&rt, alloc, &["replay", "5"])?;
     is_no_form(&rt, alloc, &["--", "step"])?;
+    Ok(())
+}
+
+#[test]
+fn replay_writes_the_report_of_its_run(rt: HostRuntime) -> Result<(), Fail> {
+    let alloc = rt.alloc();
+    let input = b"latch script 1\nacquire 1 a wait w:61\nrelease a\nend\n";
+    let lines = ran(&rt, alloc, &["replay"], input, &[], &[])?;
+    assert!(rt; lines.status == Status::Done);
+    let report =
+        b"latch report 1\nbegin 1 lane=0 session=1 line=2 acquire wait before=- w:61\nend 1 - - waited=1\n\
+        requests 1 granted 1 checked 0 poisoned 0 cancelled 0 never 0\n";
+    assert!(rt; lines.written.as_slice() == report.as_slice());
+    let json = ran(&rt, alloc, &["replay", "--json"], input, &[], &[])?;
+    assert!(rt; json.status == Status::Done);
+    let report =
+        b"{\"entries\":[{\"before\":[],\"begin\":1,\"lane\":0,\"latches\":[\"w:61\"],\"line\":2,\"mode\":\"acquire\",\
+        \"policy\":\"wait\",\"session\":1},{\"cause\":\"-\",\"end\":1,\"fault\":\"-\",\"grant\":\"waited=1\",\"latches\":[]}],\"report\":1,\
+        \"summary\":{\"cancelled\":0,\"checked\":0,\"granted\":1,\"never\":0,\"poisoned\":0,\"requests\":1}}\n";
+    assert!(rt; json.written.as_slice() == report.as_slice());
+    Ok(())
+}
+
+#[test]
+fn a_replay_shows_what_one_session_did(rt: HostRuntime) -> Result<(), Fail> {
+    let alloc = rt.alloc();
+    // in one session nothing depends on the schedule
+    let input =
+        b"latch script 1\noptimistic 1 a wait r:61-7a\ncheck a r:61\nrelease a\nacquire 1 b error w:62@5\npoison b\nrelease b\n\
+        look 1 c wait w:63\nrelease c\noptimistic 1 d wait r:61\nrelease d\nend\n";
+    let ran_lines = ran(&rt, alloc, &["replay"], input, &[], &[])?;
+    assert!(rt; ran_lines.status == Status::Done);
+    let report =
+        b"latch report 1\nbegin 1 lane=0 session=1 line=2 optimistic wait before=- r:61-7a\nend 1 - - checked r:61\n\
+        begin 2 lane=0 session=1 line=5 acquire error before=- w:62@5\nend 2 called - waited=3\n\
+        begin 3 lane=0 session=1 line=8 look wait before=- w:63\nend 3 - - waited=5\n\
+        begin 4 lane=0 session=1 line=10 optimistic wait before=- r:61\nend 4 - - never\n\
+        requests 4 granted 2 checked 1 poisoned 0 cancelled 0 never 1\n";
+    assert!(rt; ran_lines.written.as_slice() == report.as_slice());
+    Ok(())
+}
+
+#[test]
+fn a_replay_has_the_statuses_of_its_devices(rt: HostRuntime) -> Result<(), Fail> {
+    let alloc = rt.alloc();
+    let bad = ran(
+        &rt,
+        alloc,
+        &["replay"],
+        b"latch script 1\nacquire 1 a wait w:61\nend\n",
+        &[],
+        &[],
+    )?;
+    assert!(rt; bad.status == Status::Script { line: 3, cause: 16 });
+    assert!(rt; bad.written.as_slice() == b"script 3 16\n".as_slice());
+    let unread = ran(
+        &rt,
+        alloc,
+        &["replay", "--json"],
+        b"latch script 1\nend\n",
+        &[1],
+        &[],
+    )?;
+    assert!(rt; unread.status == Status::ReadFault);
+    assert!(rt; unread.written.as_slice() == b"read fault\n".as_slice());
+    let unwritten = ran(&rt, alloc, &["replay"], b"latch script 1\nend\n", &[], &[1])?;
+    assert!(rt; unwritten.status == Status::WriteFault);
+    assert!(rt; unwritten.written.as_slice() == b"latch".as_slice());
     Ok(())
 }

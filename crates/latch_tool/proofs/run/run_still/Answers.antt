@@ -1,11 +1,10 @@
-use Rattle.std.proofs.Common.{ℕ, ◌≡◌, ◌≢◌, ◌∙◌, ap, subst, sym}
+use Rattle.std.proofs.Common.{ℕ, ◌∙◌, ap, refl, subst, sym}
 use Rattle.latch_tool.specs.Outcomes.{WritesAll, WritesMade, WritesPart, reading}
 use Rattle.latch_tool.specs.Words.{reads}
-use Rattle.latch_tool.proofs.Endings.{same_number, step_done, writes_steps}
+use Rattle.latch_tool.proofs.Endings.{done_is_no_write_fault, same_number, script_done, writes_steps}
 use Rattle.latch_tool.specs.declared.form.Form.{Form}
 use Rattle.latch_tool.specs.declared.form.Form.TheVariants as form
 use Rattle.latch_tool.specs.declared.status.Status.{Status}
-use Rattle.latch_tool.specs.declared.status.Status.TheVariants.{Done, WriteFault}
 use Rattle.latch_tool.proofs.run.run_still.Goals as goal
 
 pub returns-in-Step-clause-steps : goal.returns-in-Step-clause-steps
@@ -13,7 +12,7 @@ returns-in-Step-clause-steps g c = λ _ done.
     let source = reading g.S.Source.left g.S.Source.faults c.args.source.now c.step.new.source in
     let before = g.O.Sink.written c.args.sink.now in
     let now = g.O.Sink.written c.step.new.sink in
-    let whole : c.step.result ≢ WriteFault = λ e. let d : Done ≡ WriteFault = sym done ∙ e in absurd cc in
+    let whole = done_is_no_write_fault c.step.result done in
     writes_steps source before now (subst (λ (s : Status). WritesAll form.Step source s before now) done (c.step.ensures.written whole))
 
 pub returns-in-Step-clause-complete : goal.returns-in-Step-clause-complete
@@ -22,7 +21,7 @@ returns-in-Step-clause-complete g c = λ _ has sound kept.
     let before = g.O.Sink.written c.args.sink.now in
     let now = g.O.Sink.written c.step.new.sink in
     let is = ap reads (sym c.in-Step.ensures.form) in
-    step_done source c.step.result before now (has is) sound (c.step.ensures.written (λ e. kept (c.step.ensures.write_fault e)))
+    script_done form.Step source c.step.result before now refl (has is) sound (c.step.ensures.written (λ e. kept (c.step.ensures.write_fault e)))
 
 pub returns-in-Make-clause-written : goal.returns-in-Make-clause-written
 returns-in-Make-clause-written g c = λ kept.
