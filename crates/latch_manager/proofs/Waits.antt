@@ -31,6 +31,22 @@ came_so r (From p) policy = refl
 pub still-same : (r : RequestView) → StillWaits r r
 still-same r = record { same = refl; cause = came_so r r.cause r.request.policy }
 
+-- A request that learnt of ends alone.
+abbrev pub LearntEnds : WaitingSays → WaitingSays → Type 0
+LearntEnds old new = new ≡ record old { r = record old.r { ended = new.r.ended } }
+
+module _ (old new : WaitingSays) (learnt : LearntEnds old new) where
+  pub table-learnt : new.table ≡ old.table
+  table-learnt = ap (λ (w : WaitingSays). w.table) learnt
+
+  pub turns-learnt : new.turns ≡ old.turns
+  turns-learnt = ap (λ (w : WaitingSays). w.turns) learnt
+
+  pub still-learnt : (came : RequestView) → StillWaits came old.r → StillWaits came new.r
+  still-learnt came still =
+      subst (λ (w : WaitingSays). StillWaits came w.r) (sym learnt)
+      (record { same = ap (λ (x : RequestView). record x { ended = new.r.ended }) still.same; cause = still.cause })
+
 -- ---- what a poll finds
 
 -- the request that blocks it is a prerequisite

@@ -10,7 +10,9 @@ use Rattle.latch_model.specs.declared.history.Entry.{Entry}
 use Rattle.latch_model.specs.declared.history.Fault.TheVariants.{None as no_fault}
 use Rattle.latch_model.specs.declared.history.Sizes.{Sizes}
 use Rattle.latch_model.specs.declared.latch.Mode.{Mode}
+use Rattle.sequence_core.specs.Counted.{metrics_of}
 pub use Rattle.sequence_core.specs.Says.{end_entry, next_begin}
+use Rattle.sequence_core.specs.declared.metrics.Metrics.{Metrics}
 use Rattle.signal_board.specs.Rule.{IsPrefix, begun_as, open_count}
 use Rattle.signal_board.specs.Says.{LaneSays, PassSays, shown_all, shown_to}
 use Rattle.signal_board.specs.Steps.{new_request, wrote}
@@ -59,6 +61,10 @@ unpolled opened = record { table = opened.table; r = opened.r; turns = 0; last =
 -- A granted request that ends as it was granted.
 abbrev pub done_with : GrantedSays → EndingSays
 done_with granted = record { table = granted.table; r = granted.r; grant = granted.grant; fault = no_fault }
+
+-- These are the counts of some history of the making, which is legal.
+abbrev pub CountsSome : Made → Metrics → Type 0
+CountsSome made counts = (log : List Entry) × IsLegal log made.sizes × (counts ≡ metrics_of log made.sizes)
 
 -- All passes of a making, each without an open request.
 pub record HasAllPasses (made : Made) (passes : List PassSays) : Type 0 where

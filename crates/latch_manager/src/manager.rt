@@ -7,7 +7,7 @@ ghost use Rattle.latch_model.specs.declared.latch.Mode.TheVariants.{Acquire, Loo
 ghost use Rattle.signal_board.specs.Rule.{ByGiven, IsPrefix, open_count, own};
 ghost use Rattle.signal_board.specs.Says.{PassSays};
 ghost use Rattle.latch_manager.specs.Acquiring.{AcquireFails, Acquires, Looks, WaitEnds, as_acquire_fault};
-ghost use Rattle.latch_manager.specs.Making.{Began, Finished, HasAllPasses, done_with};
+ghost use Rattle.latch_manager.specs.Making.{Began, CountsSome, Finished, HasAllPasses, done_with};
 ghost use Rattle.latch_manager.specs.Declining.{Declined};
 ghost use Rattle.latch_manager.specs.Waiting.{WaitGrants};
 
@@ -229,7 +229,7 @@ impl<N: Making> Manager<N> {
         }
     }
 
-    /// Ends a granted request, and wakes who waits.
+    /// Ends a granted request, and wakes who sleeps until its end.
     pub fn release<R: Wait>(&self, rt: &R, pass: &mut Pass, granted: Granted)
         requires tables { (pass.old.table ≡ N.made.table) × (granted.table ≡ N.made.table) }
         requires session { granted.r.who ≡ pass.old.p.who }
@@ -238,7 +238,7 @@ impl<N: Making> Manager<N> {
         self.end(rt, pass, granted.finish());
     }
 
-    /// Ends a request that was given up, and wakes who waits.
+    /// Ends a request that was given up, and wakes who sleeps until its end.
     pub fn give_up<R: Wait>(&self, rt: &R, pass: &mut Pass, ending: Ending)
         requires tables { (pass.old.table ≡ N.made.table) × (ending.table ≡ N.made.table) }
         requires session { ending.r.who ≡ pass.old.p.who }
@@ -247,15 +247,18 @@ impl<N: Making> Manager<N> {
         self.end(rt, pass, ending);
     }
 
-    /// Wakes who waits, so that a poisoning is seen.
+    /// Wakes all who wait, so that a poisoning is seen.
     pub fn nudge<R: Wait>(&self, rt: &R) {
-        self.wakes.raise(rt);
+        self.wakes.raise_all(rt);
     }
 
-    /// How many latches are held and how many reads are pending, at some moment of the call.
-    pub fn metrics<R: Wait>(&self, rt: &R) -> Metrics {
+    /// How many latches are held and how many reads are pending, by scope, and how many rows are free, at some moment of the call: as some history of the
+    /// making has them, which is legal.
+    pub fn metrics<R: Wait>(&self, rt: &R) -> Metrics
+        ensures { CountsSome N.made result }
+    {
         let guard = self.desk.lock(rt);
-        guard.desk.metrics()
+        counts(&guard)
     }
 
     /// Ends the manager with all its passes. What comes out is the whole history: it is legal, no request of it is open, and the entries of each session
@@ -274,14 +277,15 @@ impl<N: Making> Manager<N> {
         desk.close(core, passes)
     }
 
-    // Ends a request under the mutex, and then wakes who waits.
+    // Ends a request under the mutex, and then wakes who sleeps at it.
     fn end<R: Wait>(&self, rt: &R, pass: &mut Pass, ending: Ending)
         requires tables { (pass.old.table ≡ N.made.table) × (ending.table ≡ N.made.table) }
         requires session { ending.r.who ≡ pass.old.p.who }
         ensures finished { Finished N.made pass.old ending pass.new }
     {
+        let id = ending.id();
         self.end_one(rt, pass, ending);
-        self.wakes.raise(rt);
+        self.wakes.raise(rt, id);
     }
 
     fn end_one<R: Wait>(&self, rt: &R, pass: &mut Pass, ending: Ending)
@@ -312,6 +316,14 @@ fn begin<N: Making>(
     let begun = locked.desk.begin(alloc, core, pass, request, mode);
     locked.desk.known();
     begun
+}
+
+// What a desk of the making counts.
+fn counts<N: Making>(locked: &Locked<N>) -> Metrics
+    ensures { CountsSome N.made result }
+{
+    locked.desk.known();
+    locked.desk.metrics()
 }
 
 // Why a wait failed, as why nothing was acquired.

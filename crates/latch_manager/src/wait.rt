@@ -10,7 +10,7 @@ ghost use Rattle.latch_manager.specs.Waiting.{WaitGrants};
 
 use crate::patience::Patience;
 use crate::wakes::Wakes;
-use latch_model::history::Fault;
+use latch_model::history::{Cause, Fault};
 use std::sync::Wait;
 use waiter::{Core, Ending, Granted, Mark, Polled, Waiting};
 
@@ -43,18 +43,44 @@ pub(crate) fn until_granted<R: Wait, P: Patience>(
 {
     for _ in rt.forever() {
         let seen = wakes.now();
+        let came = waiting.cause();
         match waiting.poll(core) {
             Polled::Ready => return Ok(waiting.grant(core)),
             Polled::Poisoned { by, place: _ } => return Err(fail(core, waiting, by)),
-            Polled::Blocked { by: _, place: _ } => {
+            Polled::Blocked { by, place: _ } => {
+                spread(rt, wakes, came, waiting.cause());
                 if !patience.more(waiting.turns()) {
                     return Err(cancel(core, waiting));
                 }
-                wakes.sleep(rt, seen);
+                let at = place_to_sleep(core, wakes, &mut waiting, by);
+                wakes.sleep(rt, seen, at);
             }
         }
     }
     unreachable!()
+}
+
+// Wakes all where the request was poisoned by its poll, so that those which wait for it see it.
+fn spread<R: Wait>(rt: &R, wakes: &Wakes, came: Cause, now: Cause) {
+    match (came, now) {
+        (Cause::None, Cause::Called | Cause::From(_)) => wakes.raise_all(rt),
+        (Cause::None, Cause::None) => {}
+        (Cause::Called | Cause::From(_), _) => {}
+    }
+}
+
+// The request at which one sleeps that this one blocks: the last open one that it waits for, so that few ends wake it in vain. Once anything was poisoned
+// it is the one that blocks, since behind that one's end a poisoned one may come next.
+fn place_to_sleep(core: &Core, wakes: &Wakes, waiting: &mut Waiting, by: u64) -> u64
+    requires table { waiting.old.table ≡ core.now.board.table }
+    requires blocked { (x : HeldLatch) × (waiting.old.last ≡ Blocked x) }
+    ensures same { waiting.new ≡ record waiting.old { r = record waiting.old.r { ended = waiting.new.r.ended } } }
+{
+    if wakes.is_calm() {
+        waiting.last_open(core)
+    } else {
+        by
+    }
 }
 
 // The request meets a latch of a poisoned one, and is to end so.

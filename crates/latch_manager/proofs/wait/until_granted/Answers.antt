@@ -1,9 +1,9 @@
-use Rattle.std.proofs.Common.{◌≡◌, ℕ, ◌≤◌, true, false, sym, ◌∙◌, subst, inl, inr}
+use Rattle.std.proofs.Common.{◌≡◌, ℕ, ◌<◌, ◌≤◌, true, false, sym, ◌∙◌, subst, inl, inr}
 use Rattle.std.proofs.lemmas.Bool.{cases_lt}
 use Rattle.latch_manager.specs.Acquiring.{WaitFailsAs}
 use Rattle.latch_manager.specs.Patience.{Refused}
 use Rattle.latch_manager.specs.declared.wait.WaitFault.{WaitFault}
-use Rattle.latch_manager.proofs.Waits.{still-polled, wait-meets, wait-stops}
+use Rattle.latch_manager.proofs.Waits.{still-learnt, still-polled, table-learnt, turns-learnt, wait-meets, wait-stops}
 use Rattle.latch_manager.proofs.wait.until_granted.Goals as goal
 
 pub returns-in-Poisoned-clause-failed : goal.returns-in-Poisoned-clause-failed
@@ -31,20 +31,25 @@ returns-then-not-more-clause-failed g c =
     )
 
 pub loop-preserved : goal.loop-preserved
-loop-preserved g c = (
-  tt,
-  tt,
-  c.poll.ensures.same.table ∙ c.loop.invariant.2,
-  still-polled c.args.waiting c.loop.waiting c.poll.new.self c.loop.invariant.3 c.poll.ensures.same c.poll.result c.poll.ensures.answer,
-  c.more.ensures.same c.if-not-more.false ∙ c.loop.invariant.4,
-  c.more.ensures.limit ∙ c.loop.invariant.5,
-  λ n e lt. elim (cases_lt c.poll.new.self.turns n) [
-    | inl less ↦ less
-    | inr most ↦
-        let no_more : c.more.result ≡ false = (c.more.ensures.at_limit n (c.loop.invariant.5 ∙ e)).1 (subst (λ (t : ℕ). n ≤ t) (sym c.turns.ensures) most) in
-        absurd (false-true (sym no_more ∙ c.if-not-more.false))
-  ],
-)
+loop-preserved g c =
+    let polled = c.poll.new.self in
+    let woken = c.place_to_sleep-at.new.waiting in
+    let learnt = c.place_to_sleep-at.ensures.same in (
+      tt,
+      tt,
+      table-learnt polled woken learnt ∙ (c.poll.ensures.same.table ∙ c.loop.invariant.2),
+      still-learnt polled woken learnt c.args.waiting.r
+          (still-polled c.args.waiting c.loop.waiting polled c.loop.invariant.3 c.poll.ensures.same c.poll.result c.poll.ensures.answer),
+      c.more.ensures.same c.if-not-more.false ∙ c.loop.invariant.4,
+      c.more.ensures.limit ∙ c.loop.invariant.5,
+      λ n e lt. elim (cases_lt polled.turns n) [
+        | inl less ↦ subst (λ (t : ℕ). t < n) (sym (turns-learnt polled woken learnt)) less
+        | inr most ↦
+            let no_more : c.more.result ≡ false =
+            (c.more.ensures.at_limit n (c.loop.invariant.5 ∙ e)).1 (subst (λ (t : ℕ). n ≤ t) (sym c.turns.ensures) most) in
+            absurd (false-true (sym no_more ∙ c.if-not-more.false))
+      ],
+    )
   where
     false-true : false ≡ true → ⊥
     false-true e = cc

@@ -1,4 +1,4 @@
-use Rattle.std.proofs.Common.{◌≡◌, ◌∙◌, List, [], if◌then◌else◌, sym, ap, subst}
+use Rattle.std.proofs.Common.{◌∙◌, List, [], if◌then◌else◌, sym, ap, subst}
 use Rattle.std.specs.List.{Contains}
 use Rattle.span_key.specs.Scopes.{scope_of}
 use Rattle.latch_model.specs.Histories.{HeldLatch, list_of}

@@ -1,7 +1,7 @@
 use Rattle.std.proofs.Common.{◌≡◌, ◌∙◌, sym, ap, subst}
 use Rattle.latch_model.specs.Histories.{HeldLatch}
 use Rattle.waiter.specs.Met.{held_of, last_of}
-use Rattle.waiter.specs.Says.{Blocked, Last, LastGiven, WaitingSays}
+use Rattle.waiter.specs.Says.{Blocked, LastGiven, WaitingSays}
 use Rattle.waiter.specs.Walks.{IsWaitedFor}
 use Rattle.waiter.specs.declared.waiting.Stage.{Stage}
 use Rattle.waiter.specs.declared.waiting.Stage.TheVariants as stage
