@@ -1,5 +1,6 @@
 -- The links of a live node are copied to an owned one.
-use Rattle.std.proofs.Common.{◌≡◌, ◌⊎◌, inl, inr, ⊎_elim, ℕ, zero, suc, ◌+◌, ◌-◌, ◌<◌, ◌≤◌, ◌^◌, Option, Some, None, List, [], ◌∷◌, ◌++◌, length, replicate, length-append, append_assoc, sym, refl, ap, ◌∙◌, subst, arith}
+use Rattle.std.proofs.Common.{◌≡◌, ◌⊎◌, inl, inr, ⊎_elim, ℕ, zero, suc, ◌+◌, ◌-◌, ◌<◌, ◌≤◌, ◌^◌, Option, Some, None, List, [], ◌∷◌, ◌++◌, length, replicate}
+use Rattle.std.proofs.Common.{length-append, append_assoc, sym, refl, ap, ◌∙◌, subst, arith}
 use Rattle.std.proofs.lemmas.List.{length-replicate}
 use mathlib.Core.Option.{some}
 use lib.ListN.{get_elem?}
@@ -131,7 +132,8 @@ pub copied-none : (v f : SeatView) (row copy k : ℕ) → tree_word (tree_of row
 copied-none v f row copy k ref low high same follow kind n us ms vs ws xs e len many o at =
     let (ne, u, is, up, to_is) = source-at v row k None us ms vs ref low high e len many follow in
     let empty = named-zero u (nowhere (tree_word u) to_is) in
-    subst (λ z. OwnsNode z copy kind n (ws ++ (ms ++ xs))) (sym same) (subst (λ l. OwnsNode v copy kind n (ws ++ (l ++ xs))) (sym (is ∙ ap (λ t. t ∷ []) empty)) o)
+    subst (λ z. OwnsNode z copy kind n (ws ++ (ms ++ xs))) (sym same) (subst (λ l. OwnsNode v copy kind n (ws ++ (l ++ xs))) (sym (is ∙ ap (λ t. t ∷ []) empty))
+    o)
 
 -- ---- several links
 pub copies-none : (v : SeatView) (row copy k m : ℕ) → m ≤ 0 → Copies v v row copy k m
@@ -233,7 +235,8 @@ pub record SecondPart (n : ℕ) (us : List Tree) (top : Tree) (its cs : List Tre
 pub second-part : (n : ℕ) (us : List Tree) (top : Tree) (its cs : List Tree) (s : Spread n us top its cs) → SecondPart n us top its cs s.free s.room
 second-part n us top its cs s = record {
   front = (top ∷ its) ++ replicate s.free nil;
-  place = (let a = s.count in let b = s.items in let g = length-replicate {A = Tree} s.free nil in let l = length-append its (replicate s.free nil) in omega arith);
+  place = (let a = s.count in let b = s.items in let g = length-replicate {A = Tree} s.free nil in let l = length-append its (replicate s.free nil) in
+      omega arith);
   source = s.links;
   before = λ ds. ap (λ l. top ∷ l) (sym (append_assoc its (replicate s.free nil) (ds ++ replicate s.room nil)));
 }

@@ -31,7 +31,17 @@ module _ (R : Tree → List Tree → Type 0) where
   halve [] yss (suc j) p h = absurd (omega arith)
   halve (c ∷ cs) [] (suc j) p h = absurd p
   halve (c ∷ cs) (y ∷ yss) (suc j) p h = let o = halve cs yss j p.1 (omega arith) in
-      record { fs = c ∷ o.fs; bs = o.bs; fss = y ∷ o.fss; bss = o.bss; kids_is = ap (λ l. c ∷ l) o.kids_is; lists_is = ap (λ l. y ∷ l) o.lists_is; place = ap suc o.place; left = (p.0, o.left); right = o.right }
+      record {
+        fs = c ∷ o.fs;
+        bs = o.bs;
+        fss = y ∷ o.fss;
+        bss = o.bss;
+        kids_is = ap (λ l. c ∷ l) o.kids_is;
+        lists_is = ap (λ l. y ∷ l) o.lists_is;
+        place = ap suc o.place;
+        left = (p.0, o.left);
+        right = o.right;
+      }
 
 pub node-of : (h kind n : ℕ) (top : Tree) (us xs : List Tree) (t : Tree) → Body h kind n (top ∷ us) xs → IsTop t xs → Node h kind n (t ∷ us) xs
 node-of h kind n top us xs t b g = go h b.top b.its b.cs b.yss b.is b.spread b.list b.items b.many b.below
@@ -40,13 +50,39 @@ node-of h kind n top us xs t b g = go h b.top b.its b.cs b.yss b.is b.spread b.l
     tail s l e = cc
 
     respread : (s : Tree) (its cs : List Tree) → Spread n (top ∷ us) s its cs → Spread n (t ∷ us) t its cs
-    respread s its cs r = record { free = r.free; room = r.room; links = ap (λ l. t ∷ l) (tail s ((its ++ replicate r.free nil) ++ (cs ++ replicate r.room nil)) r.links); count = r.count; items = r.items; children = r.children }
+    respread s its cs r = record {
+      free = r.free;
+      room = r.room;
+      links = ap (λ l. t ∷ l) (tail s ((its ++ replicate r.free nil) ++ (cs ++ replicate r.room nil)) r.links);
+      count = r.count;
+      items = r.items;
+      children = r.children;
+    }
 
-    go : (h : ℕ) (s : Tree) (its cs : List Tree) (yss : List (List Tree)) → kind ≡ kind_at h → Spread n (top ∷ us) s its cs → xs ≡ weave its yss → Each IsLatch its → Many h (length cs) n → Pairs (LevelKid h) cs yss → Node h kind n (t ∷ us) xs
-    go zero s its [] [] k r l i m p = record { top = t; is = k; spread = subst (λ z. Spread n (t ∷ us) t z []) (sym l) (respread s its [] r); items = subst (Each IsLatch) (sym l) i; greatest = g }
+    go : (h : ℕ) (s : Tree) (its cs : List Tree) (yss : List (List Tree)) → kind ≡ kind_at h → Spread n (top ∷ us) s its cs → xs ≡ weave its yss
+        → Each IsLatch its → Many h (length cs) n → Pairs (LevelKid h) cs yss → Node h kind n (t ∷ us) xs
+    go zero s its [] [] k r l i m p = record {
+      top = t;
+      is = k;
+      spread = subst (λ z. Spread n (t ∷ us) t z []) (sym l) (respread s its [] r);
+      items = subst (Each IsLatch) (sym l) i;
+      greatest = g;
+    }
     go zero s its [] (y ∷ yss) k r l i m p = absurd p
     go zero s its (c ∷ cs) yss k r l i m p = absurd (omega arith)
-    go (suc h) s its cs yss k r l i m p = record { top = t; its = its; cs = cs; yss = yss; is = k; spread = respread s its cs r; list = l; items = i; greatest = g; one_more = m; below = p }
+    go (suc h) s its cs yss k r l i m p = record {
+      top = t;
+      its = its;
+      cs = cs;
+      yss = yss;
+      is = k;
+      spread = respread s its cs r;
+      list = l;
+      items = i;
+      greatest = g;
+      one_more = m;
+      below = p;
+    }
 
 -- the first link may lead anywhere
 pub body-with : (h kind n : ℕ) (u t : Tree) (us xs : List Tree) → Body h kind n (u ∷ us) xs → Body h kind n (t ∷ us) xs
@@ -96,7 +132,8 @@ pub record Parts (h kind : ℕ) (us xs : List Tree) : Type 0 where
 middle : (its : List Tree) → length its ≡ 31 → (is : List Tree) × (m : Tree) × (js : List Tree) × (its ≡ is ++ m ∷ js) × (length is ≡ 15) × (length js ≡ 15)
 middle its len = go (cut-list its 15 (omega arith))
   where
-    go : (us vs : List Tree) × (its ≡ us ++ vs) × (length us ≡ 15) → (is : List Tree) × (m : Tree) × (js : List Tree) × (its ≡ is ++ m ∷ js) × (length is ≡ 15) × (length js ≡ 15)
+    go : (us vs : List Tree) × (its ≡ us ++ vs) × (length us ≡ 15) → (is : List Tree) × (m : Tree) × (js : List Tree) × (its ≡ is ++ m ∷ js) × (length is ≡ 15)
+        × (length js ≡ 15)
     go (us, [], e, l) = (let a = ap length e in let b = length-append us [] in absurd (omega arith))
     go (us, v ∷ vs, e, l) = (us, v, vs, e, l, let a = ap length e in let b = length-append us (v ∷ vs) in omega arith)
 
@@ -129,7 +166,7 @@ node-body (suc h) kind n us xs o = record {
   below = o.below;
 }
 
-parts-leaf : (kind : ℕ) (us xs : List Tree) (top : Tree) → kind ≡ 2 → Spread 31 us top xs [] → Each IsLatch xs → Parts zero kind us xs
+pub parts-leaf : (kind : ℕ) (us xs : List Tree) (top : Tree) → kind ≡ 2 → Spread 31 us top xs [] → Each IsLatch xs → Parts zero kind us xs
 parts-leaf kind us xs top is_leaf spread latches =
     let (is, m, js, split, a, b) = middle xs spread.count in
     let items = subst (Each IsLatch) split latches in
@@ -171,6 +208,11 @@ parts-leaf kind us xs top is_leaf spread latches =
       below = tt;
     }
 
+pub leaf-none : (kind : ℕ) (us xs : List Tree) (top : Tree) (is_leaf : kind ≡ 2) (spread : Spread 31 us top xs []) (items : Each IsLatch xs)
+    → (parts-leaf kind us xs top is_leaf spread items).ds ≡ replicate 16 nil
+unfolding parts-leaf
+leaf-none kind us xs top is_leaf spread items = refl
+
 pub parts-of : (h kind : ℕ) (us xs : List Tree) → Body h kind 31 us xs → Parts h kind us xs
 parts-of zero kind us xs o = go o.its o.cs o.yss o.spread o.list o.items o.many o.below
   where
@@ -197,7 +239,8 @@ parts-of (suc h) kind us xs o =
       ds = q.bs;
       ls = weave is q.fss;
       rs = weave js q.bss;
-      links = o.spread.links ∙ ap (λ l. o.top ∷ l) ((λ i. no-more o.spread.free o.its full i ++ no-more o.spread.room o.cs room i) ∙ (λ i. split i ++ q.kids_is i));
+      links = o.spread.links ∙ ap (λ l. o.top ∷ l) ((λ i. no-more o.spread.free o.its full i ++ no-more o.spread.room o.cs room i)
+          ∙ (λ i. split i ++ q.kids_is i));
       left_items = a;
       right_items = b;
       left_kids = q.place;

@@ -1,7 +1,8 @@
 -- What several calls leave as it was, and what they take from a chain.
-use Rattle.std.proofs.Common.{◌≡◌, ◌≢◌, ℕ, ◌+◌, ◌≤◌, true, false, true≢false, List, [], ◌∷◌, ◌++◌, length-append, sym, refl, ap, ◌∙◌, subst, ⊎_elim, ne_eqb, arith}
+use Rattle.std.proofs.Common.{◌≡◌, ◌≢◌, ℕ, ◌+◌, ◌≤◌, true, false, true≢false, List, [], ◌∷◌, ◌++◌, length-append, sym, refl, ap, ◌∙◌, subst, ⊎_elim, ne_eqb}
+use Rattle.std.proofs.Common.{arith}
 use Rattle.std.proofs.lemmas.Bool.Decides.{eqb_tells}
-use mathlib.Core.Option.{none, some-ne-none, some-injective}
+use mathlib.Core.Option.{none, some, some-ne-none, some-injective}
 use Rattle.row_pool.proofs.Chains.{chain-aside, chain-on, mem-here, mem-neither, mem-or, strung-free}
 use Rattle.row_pool.specs.Chains.{ChainGrows, IsChain, OwnsMore}
 use Rattle.row_pool.specs.Lists.{find, mem}
@@ -189,7 +190,8 @@ spends-row v w r c xs rs a away h = record {
 pub owns-aside : (v : SeatView) (r kind n : ℕ) (us : List Tree) (c : Chain) (rs : List ℕ) → OwnsNode v r kind n us → IsChain v c rs → mem r rs ≡ false
 owns-aside v r kind n us c rs o h = ⊎_elim
     (λ m. let z = strung-free v rs c.head r h.linked_from m in
-    let s = ap (λ (e : Entry). e.kind) (some-injective o.entry z.0 (sym o.has ∙ z.1)) in let k = o.is_kind in let l = o.low in let f = z.2 in absurd (omega arith))
+    let s = ap (λ (e : Entry). e.kind) (some-injective o.entry z.0 (sym o.has ∙ z.1)) in let k = o.is_kind in let l = o.low in let f = z.2 in
+    absurd (omega arith))
     (λ m. m) (mem-or r rs)
 
 pub spends-others : (v w : SeatView) (r kind n : ℕ) (us : List Tree) (c : Chain) (xs rs : List ℕ) → OwnsNode v r kind n us → OthersStand r v w → IsChain v c rs
@@ -228,10 +230,10 @@ spends-pop v d r p rs is h = subst (λ p. Spends 1 [] (p ∷ []) (r ∷ rs) v v 
     (record { left = rs; chain = h; spent = omega arith; frame = frame-self (r ∷ rs) v })
 
 -- ---- nodes through calls on others
-pub owns-others : (q : ℕ) (v w : SeatView) (r kind n : ℕ) (us : List Tree) → OthersStand q v w → r ≢ q → OwnsNode v r kind n us → OwnsNode w r kind n us
-owns-others q v w r kind n us a ne o = record {
+pub owns-entry : (v w : SeatView) (r kind n : ℕ) (us : List Tree) (o : OwnsNode v r kind n us) → find r w.owned ≡ some o.entry → OwnsNode w r kind n us
+owns-entry v w r kind n us o has = record {
   entry = o.entry;
-  has = a.rows r ne ∙ o.has;
+  has = has;
   is_kind = o.is_kind;
   low = o.low;
   high = o.high;
@@ -241,18 +243,11 @@ owns-others q v w r kind n us a ne o = record {
   said = o.said;
 }
 
+pub owns-others : (q : ℕ) (v w : SeatView) (r kind n : ℕ) (us : List Tree) → OthersStand q v w → r ≢ q → OwnsNode v r kind n us → OwnsNode w r kind n us
+owns-others q v w r kind n us a ne o = owns-entry v w r kind n us o (a.rows r ne ∙ o.has)
+
 pub owns-same : (v w : SeatView) (r kind n : ℕ) (us : List Tree) → w.owned ≡ v.owned → OwnsNode v r kind n us → OwnsNode w r kind n us
-owns-same v w r kind n us is o = record {
-  entry = o.entry;
-  has = ap (find r) is ∙ o.has;
-  is_kind = o.is_kind;
-  low = o.low;
-  high = o.high;
-  links = o.links;
-  apart = o.apart;
-  count = o.count;
-  said = o.said;
-}
+owns-same v w r kind n us is o = owns-entry v w r kind n us o (ap (find r) is ∙ o.has)
 
 -- a node on which the calls did not work
 pub record Aside (w : SeatView) (r kind n : ℕ) (us : List Tree) (ys : List ℕ) : Type 0 where
@@ -264,17 +259,7 @@ pub owns-kept : (k : ℕ) (xs ys rs : List ℕ) (v w : SeatView) (c d : Chain) (
 owns-kept k xs ys rs v w c d r kind n us h a o away =
     let z = a.frame.kept r o.entry (mem-both r xs rs away (owns-aside v r kind n us c rs o h), o.has) in
     record {
-      owns = record {
-        entry = o.entry;
-        has = z.1;
-        is_kind = o.is_kind;
-        low = o.low;
-        high = o.high;
-        links = o.links;
-        apart = o.apart;
-        count = o.count;
-        said = o.said;
-      };
+      owns = owns-entry v w r kind n us o z.1;
       apart = (mem-neither r ys a.left z.0).0;
     }
 
@@ -297,14 +282,5 @@ others-same v w x r is o = subst (λ z. OthersStand r z x) is o
 
 -- a node through the growth of a chain
 pub owns-grows : (more : List ℕ) (v w : SeatView) (r kind n : ℕ) (us : List Tree) → OwnsMore more v w → OwnsNode v r kind n us → OwnsNode w r kind n us
-owns-grows more v w r kind n us g o = record {
-  entry = o.entry;
-  has = ⊎_elim (λ m. absurd (some-ne-none o.entry (sym o.has ∙ g.fresh r m))) (λ m. g.same r m ∙ o.has) (mem-or r more);
-  is_kind = o.is_kind;
-  low = o.low;
-  high = o.high;
-  links = o.links;
-  apart = o.apart;
-  count = o.count;
-  said = o.said;
-}
+owns-grows more v w r kind n us g o = owns-entry v w r kind n us o
+    (⊎_elim (λ m. absurd (some-ne-none o.entry (sym o.has ∙ g.fresh r m))) (λ m. g.same r m ∙ o.has) (mem-or r more))

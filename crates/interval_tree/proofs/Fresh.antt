@@ -1,5 +1,6 @@
 -- A free row becomes a node, and a live node an owned one.
-use Rattle.std.proofs.Common.{◌≡◌, ℕ, zero, suc, ◌+◌, ◌-◌, ◌<◌, ◌≤◌, List, [], ◌∷◌, ◌++◌, map, length, replicate, slice_index, sym, refl, ap, ◌∙◌, subst, eq-eqb, ne_eqb, arith}
+use Rattle.std.proofs.Common.{◌≡◌, ℕ, zero, suc, ◌+◌, ◌-◌, ◌<◌, ◌≤◌, List, [], ◌∷◌, ◌++◌, map, length, replicate, slice_index, sym, refl, ap, ◌∙◌, subst}
+use Rattle.std.proofs.Common.{eq-eqb, ne_eqb, arith}
 use mathlib.Core.Option.{some}
 use Rattle.std.specs.Prelude.{false}
 use Rattle.row_pool.proofs.Chains.{chain-one, find-noted, find-noted-else, mem-here, strung-apart}
@@ -100,7 +101,8 @@ pub record Owned (v w : SeatView) (row result : ℕ) (t : Tree) (c d : Chain) : 
   pub spends : (rs : List ℕ) → IsChain v c rs → Spends 1 [] (result ∷ []) rs v w d
 
 pub owned-in-place : (v w : SeatView) (row : ℕ) (c : Chain) → ViewInvariant v → tree_word (tree_of row v.refs) ≡ suc row
-    → (2 ≤ word (tree_of row v.refs) 1) × (word (tree_of row v.refs) 1 ≤ 3) → w ≡ own_row (tree_of row v.refs) row 1 v → Owned v w row row (tree_of row v.refs) c c
+    → (2 ≤ word (tree_of row v.refs) 1) × (word (tree_of row v.refs) 1 ≤ 3) → w ≡ own_row (tree_of row v.refs) row 1 v
+    → Owned v w row row (tree_of row v.refs) c c
 owned-in-place v w row c sound ref kind is =
     let t : Tree = tree_of row v.refs in
     let f = facts v row sound ref in

@@ -1,5 +1,6 @@
 -- The item of the greatest bound.
-use Rattle.std.proofs.Common.{◌≡◌, ◌⊎◌, ⊎_elim, inl, inr, true, false, Option, Some, None, ℕ, zero, suc, ◌+◌, ◌-◌, ◌<◌, ◌≤◌, List, [], ◌∷◌, ◌++◌, length, replicate, length-append, append_assoc, sym, refl, ap, ◌∙◌, subst, arith}
+use Rattle.std.proofs.Common.{◌≡◌, ◌⊎◌, ⊎_elim, inl, inr, true, false, Option, Some, None, ℕ, zero, suc, ◌+◌, ◌-◌, ◌<◌, ◌≤◌, List, [], ◌∷◌, ◌++◌, length}
+use Rattle.std.proofs.Common.{replicate, length-append, append_assoc, sym, refl, ap, ◌∙◌, subst, arith}
 use mathlib.Core.Option.{some}
 use lib.ListN.{get_elem?}
 use Rattle.std.specs.Ordering.{is_lt}
@@ -286,4 +287,5 @@ pub weave-below : (t : Tree) (its : List Tree) (yss : List (List Tree)) → leng
 weave-below t its [] le h = absurd h
 weave-below t [] (ys ∷ []) le h = ⊎_elim (λ a. a) (λ b. absurd b) (among-split t ys [] h)
 weave-below t [] (ys ∷ zs ∷ yss) le h = absurd (omega arith)
-weave-below t (x ∷ its) (ys ∷ yss) le h = ⊎_elim (λ a. among-front t ys (x ∷ weave its yss) a) (λ b. among-back t ys (x ∷ weave its yss) (inr (weave-below t its yss (omega arith) b))) (among-split t ys (joined yss) h)
+weave-below t (x ∷ its) (ys ∷ yss) le h = ⊎_elim (λ a. among-front t ys (x ∷ weave its yss) a)
+    (λ b. among-back t ys (x ∷ weave its yss) (inr (weave-below t its yss (omega arith) b))) (among-split t ys (joined yss) h)

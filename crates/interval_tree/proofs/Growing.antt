@@ -1,5 +1,6 @@
 -- A tree of any size gets an item.
-use Rattle.std.proofs.Common.{◌≡◌, ◌≢◌, ℕ, suc, ◌+◌, ◌*◌, ◌<◌, ◌≤◌, ◌^◌, List, [], ◌∷◌, ◌++◌, length, length-append, replicate, ap, sym, refl, subst, ◌∙◌, ne_eqb, ⊎_elim, inl, arith}
+use Rattle.std.proofs.Common.{◌≡◌, ◌≢◌, ℕ, suc, ◌+◌, ◌*◌, ◌<◌, ◌≤◌, ◌^◌, List, [], ◌∷◌, ◌++◌, length, length-append, replicate, ap, sym, refl, subst, ◌∙◌}
+use Rattle.std.proofs.Common.{ne_eqb, ⊎_elim, inl, arith}
 use Rattle.std.specs.declared.cmp.Ordering.TheVariants.{Equal}
 use Rattle.std.specs.Prelude.{Option, Some, None}
 use mathlib.Core.Option.{some, some-ne-none, some-injective}
@@ -221,5 +222,6 @@ beside-long (Some root) ts = let a = without_tree-length root ts in omega arith
 pub with-root : (v w : SeatView) (root height : ℕ) (xs : List Tree) → w ≡ with_ref (tree_of root v.refs) v → RefersTo v (Some root) height xs
     → RefersTo w (Some root) height xs
 with-root v w root height xs is r =
-    let first : tree_of root w.refs ≡ tree_of root v.refs = ap (λ (z : SeatView). tree_of root z.refs) is ∙ tree_of-first root (tree_of root v.refs) v.refs r.0 in
+    let first : tree_of root w.refs ≡ tree_of root v.refs = ap (λ (z : SeatView). tree_of root z.refs) is
+    ∙ tree_of-first root (tree_of root v.refs) v.refs r.0 in
     (ap tree_word first ∙ r.0, subst (λ t. IsTree t height xs) (sym first) r.1)

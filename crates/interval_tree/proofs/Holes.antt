@@ -1,5 +1,6 @@
 -- A node whose child is out: how it comes about, how a further item and child come in, and how it ends.
-use Rattle.std.proofs.Common.{◌≡◌, ◌≢◌, ℕ, zero, suc, ◌+◌, ◌-◌, ◌<◌, List, [], ◌∷◌, ◌++◌, length, replicate, length-append, append_assoc, sym, refl, ap, ◌∙◌, subst, arith}
+use Rattle.std.proofs.Common.{◌≡◌, ◌≢◌, ℕ, zero, suc, ◌+◌, ◌-◌, ◌<◌, List, [], ◌∷◌, ◌++◌, length, replicate, length-append, append_assoc, sym, refl, ap, ◌∙◌}
+use Rattle.std.proofs.Common.{subst, arith}
 use Rattle.std.proofs.lemmas.List.{length-replicate}
 use Rattle.row_pool.specs.Trees.{Tree, nil}
 use Rattle.latch_item.specs.Items.{Before, IsLatch}
@@ -9,7 +10,8 @@ use Rattle.interval_tree.proofs.Weaves.{ahead-low, ahead-more, behind-high, weav
 use Rattle.interval_tree.specs.Nodes.{Differs, EachRow, Hole, ahead, behind, hole_back, hole_end, item_front}
 
 module _ (R : Tree → List Tree → Type 0) where
-  pub pairs-join : (fs : List Tree) (fss : List (List Tree)) (bs : List Tree) (bss : List (List Tree)) → Pairs R fs fss → Pairs R bs bss → Pairs R (fs ++ bs) (fss ++ bss)
+  pub pairs-join : (fs : List Tree) (fss : List (List Tree)) (bs : List Tree) (bss : List (List Tree)) → Pairs R fs fss → Pairs R bs bss
+      → Pairs R (fs ++ bs) (fss ++ bss)
   pairs-join [] [] bs bss a b = b
   pairs-join [] (y ∷ ys) bs bss a b = absurd a
   pairs-join (x ∷ xs) [] bs bss a b = absurd a
@@ -38,9 +40,35 @@ module _ (R : Tree → List Tree → Type 0) where
   pub cut-pairs : (cs : List Tree) (yss : List (List Tree)) (j : ℕ) → Pairs R cs yss → j < length cs → Cut cs yss j
   cut-pairs [] yss j p h = absurd (omega arith)
   cut-pairs (x ∷ xs) [] j p h = absurd p
-  cut-pairs (x ∷ xs) (y ∷ ys) zero p h = record { fs = []; c = x; bs = xs; fss = []; y = y; bss = ys; kids_is = refl; lists_is = refl; place = refl; left = tt; here = p.0; right = p.1 }
+  cut-pairs (x ∷ xs) (y ∷ ys) zero p h = record {
+    fs = [];
+    c = x;
+    bs = xs;
+    fss = [];
+    y = y;
+    bss = ys;
+    kids_is = refl;
+    lists_is = refl;
+    place = refl;
+    left = tt;
+    here = p.0;
+    right = p.1;
+  }
   cut-pairs (x ∷ xs) (y ∷ ys) (suc j) p h = let o = cut-pairs xs ys j p.1 (omega arith) in
-      record { fs = x ∷ o.fs; c = o.c; bs = o.bs; fss = y ∷ o.fss; y = o.y; bss = o.bss; kids_is = ap (λ l. x ∷ l) o.kids_is; lists_is = ap (λ l. y ∷ l) o.lists_is; place = ap suc o.place; left = (p.0, o.left); here = o.here; right = o.right }
+      record {
+        fs = x ∷ o.fs;
+        c = o.c;
+        bs = o.bs;
+        fss = y ∷ o.fss;
+        y = o.y;
+        bss = o.bss;
+        kids_is = ap (λ l. x ∷ l) o.kids_is;
+        lists_is = ap (λ l. y ∷ l) o.lists_is;
+        place = ap suc o.place;
+        left = (p.0, o.left);
+        here = o.here;
+        right = o.right;
+      }
 
 -- ---- the links in front of the hole, and behind it
 abbrev pub hole_front : {h kind n : ℕ} {us ps qs : List Tree} {j : ℕ} → Hole h kind n us ps qs j → List Tree
@@ -77,7 +105,8 @@ record Apart (it : Tree) (xs ps ys qs : List Tree) : Type 0 where
   sorted : Sorted ys
   differs : Each (Differs it) ys
 
-apart_lists : (it : Tree) (xs is js : List Tree) (yss : List (List Tree)) (ys : List Tree) (zss : List (List Tree)) → xs ≡ ahead is yss ++ (ys ++ behind js zss) → Sorted xs → Each (Differs it) xs → Each (λ y. Before y it) is → Each (λ y. Before it y) js → Apart it xs (ahead is yss) ys (behind js zss)
+apart_lists : (it : Tree) (xs is js : List Tree) (yss : List (List Tree)) (ys : List Tree) (zss : List (List Tree)) → xs ≡ ahead is yss ++ (ys ++ behind js zss)
+    → Sorted xs → Each (Differs it) xs → Each (λ y. Before y it) is → Each (λ y. Before it y) js → Apart it xs (ahead is yss) ys (behind js zss)
 apart_lists it xs is js yss ys zss list sorted differs before after =
     let s = subst Sorted list sorted in
     let d = subst (Each (Differs it)) list differs in
@@ -89,7 +118,8 @@ apart_lists it xs is js yss ys zss list sorted differs before after =
       differs = each-front (Differs it) ys (behind js zss) (each-back (Differs it) (ahead is yss) (ys ++ behind js zss) d);
     }
 
-pub out : (h kind n : ℕ) (us xs : List Tree) (it : Tree) (j : ℕ) (o : Node (suc h) kind n us xs) (is js : List Tree) → o.its ≡ is ++ js → length is ≡ j → Sorted xs → Each (Differs it) xs → Each (λ y. Before y it) is → Each (λ y. Before it y) js
+pub out : (h kind n : ℕ) (us xs : List Tree) (it : Tree) (j : ℕ) (o : Node (suc h) kind n us xs) (is js : List Tree) → o.its ≡ is ++ js → length is ≡ j
+    → Sorted xs → Each (Differs it) xs → Each (λ y. Before y it) is → Each (λ y. Before it y) js
     → Out h kind n ((o.its ++ replicate o.spread.free nil) ++ (o.cs ++ replicate o.spread.room nil)) xs it j
 out h kind n us xs it j o is js split at sorted differs before after =
     let many : length is + length js ≡ n = sym (length-append is js) ∙ ap length (sym split) ∙ o.spread.count in
@@ -101,7 +131,8 @@ out h kind n us xs it j o is js split at sorted differs before after =
     let l2 = pairs-length (Kid (Node h)) z.bs z.bss z.right in
     let parts = subst (Each IsLatch) split o.items in
     let place : length front ≡ 31 + j = (let a = z.place in let b = o.spread.items in simp (length-append, length-replicate) (omega arith)) in
-    let list : xs ≡ ahead is z.fss ++ (z.y ++ behind js z.bss) = o.list ∙ (λ i. weave (split i) (z.lists_is i)) ∙ weave-at is js z.fss z.y z.bss (let a = z.place in omega arith) (let a = z.place in let b = o.one_more in omega arith) in
+    let list : xs ≡ ahead is z.fss ++ (z.y ++ behind js z.bss) = o.list ∙ (λ i. weave (split i) (z.lists_is i))
+    ∙ weave-at is js z.fss z.y z.bss (let a = z.place in omega arith) (let a = z.place in let b = o.one_more in omega arith) in
     let p = apart_lists it xs is js z.fss z.y z.bss list sorted differs before after in
     record {
       front = front;
@@ -110,7 +141,8 @@ out h kind n us xs it j o is js split at sorted differs before after =
       ps = ahead is z.fss;
       ys = z.y;
       qs = behind js z.bss;
-      links = (λ i. (split i ++ replicate o.spread.free nil) ++ (z.kids_is i ++ replicate o.spread.room nil)) ∙ around (is ++ js) (replicate o.spread.free nil) z.fs z.c z.bs (replicate o.spread.room nil);
+      links = (λ i. (split i ++ replicate o.spread.free nil) ++ (z.kids_is i ++ replicate o.spread.room nil))
+          ∙ around (is ++ js) (replicate o.spread.free nil) z.fs z.c z.bs (replicate o.spread.room nil);
       place = place;
       hole = record {
         is = is;
@@ -150,7 +182,8 @@ out h kind n us xs it j o is js split at sorted differs before after =
     around ts gs fs c bs es = ap (λ l. (ts ++ gs) ++ l) (append_assoc fs (c ∷ bs) es) ∙ sym (append_assoc (ts ++ gs) fs (c ∷ (bs ++ es)))
 
 -- ---- a child comes in
-pub close : (h kind n : ℕ) (top : Tree) (us ps qs : List Tree) (j : ℕ) (o : Hole h kind n us ps qs j) (c : Tree) (ys : List Tree) → Kid (Node h) c ys → IsTop top (ps ++ (ys ++ qs)) → Node (suc h) kind n (top ∷ (hole_front o ++ c ∷ hole_back o)) (ps ++ (ys ++ qs))
+pub close : (h kind n : ℕ) (top : Tree) (us ps qs : List Tree) (j : ℕ) (o : Hole h kind n us ps qs j) (c : Tree) (ys : List Tree) → Kid (Node h) c ys
+    → IsTop top (ps ++ (ys ++ qs)) → Node (suc h) kind n (top ∷ (hole_front o ++ c ∷ hole_back o)) (ps ++ (ys ++ qs))
 close h kind n top us ps qs j o c ys kid greatest = record {
   top = top;
   its = o.is ++ o.js;
@@ -165,7 +198,8 @@ close h kind n top us ps qs j o c ys kid greatest = record {
     items = o.full;
     children = (let a = o.left in let b = o.right in let d = o.count in let e = o.place in let f = o.room_is in simp length-append (omega arith));
   };
-  list = (λ i. o.front i ++ (ys ++ o.back i)) ∙ sym (weave-at o.is o.js o.yss ys o.zss (let a = o.place in let b = o.left_lists in omega arith) (sym o.right_lists));
+  list = (λ i. o.front i ++ (ys ++ o.back i))
+      ∙ sym (weave-at o.is o.js o.yss ys o.zss (let a = o.place in let b = o.left_lists in omega arith) (sym o.right_lists));
   items = each-join IsLatch o.is o.js o.items_left o.items_right;
   greatest = greatest;
   one_more = (let a = o.left in let b = o.right in let d = o.count in let e = o.place in simp length-append (omega arith));
@@ -173,14 +207,16 @@ close h kind n top us ps qs j o c ys kid greatest = record {
 }
 
 -- ---- a further item and a further child come in
-regroup : (is js gs cs ds es : List Tree) (m c : Tree) → (((((is ++ m ∷ js) ++ gs) ++ cs) ++ c ∷ []) ++ nil ∷ (ds ++ es)) ≡ ((((is ++ m ∷ []) ++ js) ++ gs) ++ (((cs ++ c ∷ []) ++ nil ∷ ds) ++ es))
+regroup : (is js gs cs ds es : List Tree) (m c : Tree) → (((((is ++ m ∷ js) ++ gs) ++ cs) ++ c ∷ []) ++ nil ∷ (ds ++ es))
+    ≡ ((((is ++ m ∷ []) ++ js) ++ gs) ++ (((cs ++ c ∷ []) ++ nil ∷ ds) ++ es))
 regroup is js gs cs ds es m c =
     append_assoc (((is ++ m ∷ js) ++ gs) ++ cs) (c ∷ []) (nil ∷ (ds ++ es))
     ∙ append_assoc ((is ++ m ∷ js) ++ gs) cs (c ∷ nil ∷ (ds ++ es))
     ∙ (λ i. (sym (append_assoc is (m ∷ []) js) i ++ gs) ++ (sym (append_assoc cs (c ∷ []) (nil ∷ (ds ++ es)) ∙ refl) i))
     ∙ ap (λ l. (((is ++ m ∷ []) ++ js) ++ gs) ++ l) (sym (append_assoc (cs ++ c ∷ []) (nil ∷ ds) es))
 
-regroup-left : (is js gs cs ds es : List Tree) (m c : Tree) → (((((is ++ m ∷ js) ++ gs) ++ cs) ++ nil ∷ []) ++ c ∷ (ds ++ es)) ≡ (((is ++ m ∷ js) ++ gs) ++ ((cs ++ nil ∷ c ∷ ds) ++ es))
+regroup-left : (is js gs cs ds es : List Tree) (m c : Tree) → (((((is ++ m ∷ js) ++ gs) ++ cs) ++ nil ∷ []) ++ c ∷ (ds ++ es))
+    ≡ (((is ++ m ∷ js) ++ gs) ++ ((cs ++ nil ∷ c ∷ ds) ++ es))
 regroup-left is js gs cs ds es m c =
     append_assoc (((is ++ m ∷ js) ++ gs) ++ cs) (nil ∷ []) (c ∷ (ds ++ es))
     ∙ append_assoc ((is ++ m ∷ js) ++ gs) cs (nil ∷ c ∷ (ds ++ es))
@@ -203,10 +239,13 @@ named-kids Sub (d ∷ ds) (z ∷ zss) p = (let a = p.0.here in omega arith, name
 abbrev pub hole_rest : {h kind n : ℕ} {us ps qs : List Tree} {j : ℕ} → Hole h kind n us ps qs j → List Tree
 hole_rest o = replicate (o.free - 1) nil ++ ((o.cs ++ nil ∷ o.ds) ++ replicate o.room nil)
 
-pub before-item : (h kind n : ℕ) (top : Tree) (us ps qs : List Tree) (j : ℕ) (o : Hole h kind n us ps qs j) → n < 31 → top ∷ us ≡ (top ∷ o.is) ++ (o.js ++ nil ∷ hole_rest o)
-before-item h kind n top us ps qs j o low = let a = o.full in let e = spare n o.free (λ z. omega arith) in ap (λ l. top ∷ l) (o.links ∙ rw e (simp append_assoc))
+pub before-item : (h kind n : ℕ) (top : Tree) (us ps qs : List Tree) (j : ℕ) (o : Hole h kind n us ps qs j) → n < 31
+    → top ∷ us ≡ (top ∷ o.is) ++ (o.js ++ nil ∷ hole_rest o)
+before-item h kind n top us ps qs j o low = let a = o.full in let e = spare n o.free (λ z. omega arith) in
+    ap (λ l. top ∷ l) (o.links ∙ rw e (simp append_assoc))
 
-pub with-item : (h kind n : ℕ) (top m : Tree) (us ps qs : List Tree) (j : ℕ) (o : Hole h kind n us ps qs j) → (top ∷ o.is) ++ m ∷ (o.js ++ hole_rest o) ≡ item_front o top m ++ nil ∷ hole_back o
+pub with-item : (h kind n : ℕ) (top m : Tree) (us ps qs : List Tree) (j : ℕ) (o : Hole h kind n us ps qs j) → (top ∷ o.is) ++ m ∷ (o.js ++ hole_rest o)
+    ≡ item_front o top m ++ nil ∷ hole_back o
 with-item h kind n top m us ps qs j o = ap (λ l. top ∷ l) (simp append_assoc)
 
 pub item-place : (h kind n : ℕ) (top m : Tree) (us ps qs : List Tree) (j : ℕ) (o : Hole h kind n us ps qs j) → n < 31 → length (item_front o top m) ≡ 32 + j

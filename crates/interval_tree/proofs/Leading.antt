@@ -1,5 +1,6 @@
 -- The first link and the items of a node, and what an insertion needs of them.
-use Rattle.std.proofs.Common.{◌≡◌, ⊎_elim, ℕ, zero, suc, ◌+◌, ◌-◌, ◌<◌, ◌≤◌, List, [], ◌∷◌, ◌++◌, length, replicate, length-append, append_assoc, append-nil, sym, refl, ap, ◌∙◌, subst, arith}
+use Rattle.std.proofs.Common.{◌≡◌, ⊎_elim, ℕ, zero, suc, ◌+◌, ◌-◌, ◌<◌, ◌≤◌, List, [], ◌∷◌, ◌++◌, length, replicate, length-append, append_assoc, append-nil}
+use Rattle.std.proofs.Common.{sym, refl, ap, ◌∙◌, subst, arith}
 use lib.ListN.{get_elem?}
 use Rattle.std.specs.declared.cmp.Ordering.{Ordering}
 use Rattle.std.specs.declared.cmp.Ordering.TheVariants.{Less, Equal, Greater}
@@ -78,7 +79,9 @@ pub record LeafStep (kind n : ℕ) (tail xs : List Tree) (it new : Tree) (is js 
   pub each_row : EachRow js
   pub low : length is + length js ≡ n
 
-pub leaf-step : (kind n : ℕ) (us xs : List Tree) (it new : Tree) (is js : List Tree) (o : Node 0 kind n us xs) → n < 31 → IsLatch it → Sorted xs → Each (Differs it) xs → Raised it (lead-leaf kind n us xs o).top new → xs ≡ is ++ js → Each (λ y. Before y it) is → Stops it js → LeafStep kind n (lead-leaf kind n us xs o).tail xs it new is js
+pub leaf-step : (kind n : ℕ) (us xs : List Tree) (it new : Tree) (is js : List Tree) (o : Node 0 kind n us xs) → n < 31 → IsLatch it → Sorted xs
+    → Each (Differs it) xs → Raised it (lead-leaf kind n us xs o).top new → xs ≡ is ++ js → Each (λ y. Before y it) is → Stops it js
+    → LeafStep kind n (lead-leaf kind n us xs o).tail xs it new is js
 unfolding lead-leaf
 leaf-step kind n us xs it new is js o low latch sorted differs raised split before stops =
     let free : replicate o.spread.free nil ≡ nil ∷ replicate (o.spread.free - 1) nil = spare n o.spread.free (λ z. let a = o.spread.items in omega arith) in
@@ -94,7 +97,8 @@ leaf-step kind n us xs it new is js o low latch sorted differs raised split befo
     } in
     record {
       back = replicate (o.spread.free - 1) nil ++ replicate o.spread.room nil;
-      links = ap (λ l. new ∷ l) ((λ i. split i ++ (free i ++ replicate o.spread.room nil)) ∙ append_assoc is js (nil ∷ (replicate (o.spread.free - 1) nil ++ replicate o.spread.room nil)));
+      links = ap (λ l. new ∷ l) ((λ i. split i ++ (free i ++ replicate o.spread.room nil))
+          ∙ append_assoc is js (nil ∷ (replicate (o.spread.free - 1) nil ++ replicate o.spread.room nil)));
       node = record {
         top = new;
         is = o.is;
@@ -141,7 +145,16 @@ placed it its i b = record {
     none (x ∷ l) e = absurd (omega arith)
 
 pub whole-place : (it : Tree) (its : List Tree) (n : ℕ) → length its ≡ n → Between it its 0 n
-whole-place it its n len = record { front = []; middle = its; back = []; whole = sym (append-nil its); first = refl; last = (let z = len in omega arith); before = tt; stops = tt }
+whole-place it its n len = record {
+  front = [];
+  middle = its;
+  back = [];
+  whole = sym (append-nil its);
+  first = refl;
+  last = (let z = len in omega arith);
+  before = tt;
+  stops = tt;
+}
 
 -- the item in the middle, which the halving looks at
 pub record Middle (it : Tree) (its : List Tree) (low high m : ℕ) : Type 0 where
@@ -275,9 +288,11 @@ front-of zero kind n us xs o s = record { its = xs; lead = lead-leaf kind n us x
 front-of (suc h) kind n us xs o s = record { its = o.its; lead = lead-inner h kind n us xs o; sorted = sorted-items o.its o.yss (subst Sorted o.list s) }
 
 -- the items behind the place
-pub high-items : (it : Tree) (its : List Tree) (yss : List (List Tree)) (is js : List Tree) (xs : List Tree) → xs ≡ weave its yss → Sorted xs → Each (Differs it) xs → its ≡ is ++ js → Stops it js → Each (λ y. Before it y) js
+pub high-items : (it : Tree) (its : List Tree) (yss : List (List Tree)) (is js : List Tree) (xs : List Tree) → xs ≡ weave its yss → Sorted xs
+    → Each (Differs it) xs → its ≡ is ++ js → Stops it js → Each (λ y. Before it y) js
 high-items it its yss is js xs list sorted differs split stops =
-    stops-high it js stops (each-back (Differs it) is js (subst (Each (Differs it)) split (each-items (Differs it) its yss (subst (Each (Differs it)) list differs))))
+    stops-high it js stops (each-back (Differs it) is js
+    (subst (Each (Differs it)) split (each-items (Differs it) its yss (subst (Each (Differs it)) list differs))))
     (sorted-back is js (subst Sorted split (sorted-items its yss (subst Sorted list sorted))))
 
 -- ---- an item goes into a leaf

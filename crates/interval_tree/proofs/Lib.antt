@@ -18,3 +18,4 @@ mod Parting
 mod Growing
 mod InOrder
 mod TestGrowing
+mod TestShots

@@ -8,7 +8,8 @@ use Rattle.latch_item.specs.Items.{Before}
 use Rattle.latch_item.specs.Shape.{Each, Kid, Node, Sorted}
 use Rattle.interval_tree.proofs.Depths.{node-shallow}
 use Rattle.interval_tree.proofs.Frames.{owns-others, spends-add, spends-join, spends-leaves, spends-others}
-use Rattle.interval_tree.proofs.Holes.{before-child, before-item, close, hole-links, hole-place, hole_front, hole_rest, item-place, named-items, named-kids, with-item}
+use Rattle.interval_tree.proofs.Holes.{before-child, before-item, close, hole-links, hole-place, hole_front, hole_rest, item-place, named-items, named-kids}
+use Rattle.interval_tree.proofs.Holes.{with-item}
 use Rattle.interval_tree.proofs.Leading.{turned}
 use Rattle.interval_tree.proofs.Lists.{before-trans, each-back, each-front, each-join, each-map, inserted-within, sorted-back, sorted-front, sorted-under}
 use Rattle.interval_tree.proofs.Rows.{back-cons}

@@ -76,15 +76,21 @@ pub sorted-under : (xs : List Tree) (m : Tree) (ys : List Tree) → Sorted (xs +
 sorted-under [] m ys h = tt
 sorted-under (x ∷ xs) m ys h = ((each-back (Before x) xs (m ∷ ys) h.0).0, sorted-under xs m ys h.1)
 
-pub sorted-put : (xs : List Tree) (x : Tree) (ys : List Tree) → Sorted (xs ++ ys) → Each (λ y. Before y x) xs → Each (λ y. Before x y) ys → Sorted (xs ++ x ∷ ys)
+pub sorted-put : (xs : List Tree) (x : Tree) (ys : List Tree) → Sorted (xs ++ ys) → Each (λ y. Before y x) xs → Each (λ y. Before x y) ys
+    → Sorted (xs ++ x ∷ ys)
 sorted-put [] x ys h a b = (b, h)
-sorted-put (z ∷ zs) x ys h a b = (each-join (Before z) zs (x ∷ ys) (each-front (Before z) zs ys h.0) (a.0, each-back (Before z) zs ys h.0), sorted-put zs x ys h.1 a.1 b)
+sorted-put (z ∷ zs) x ys h a b = (
+  each-join (Before z) zs (x ∷ ys) (each-front (Before z) zs ys h.0) (a.0, each-back (Before z) zs ys h.0),
+  sorted-put zs x ys
+      h.1 a.1 b,
+)
 
 pub inserted-sorted : (x : Tree) (xs ys : List Tree) → Inserted x xs ys → Sorted xs → Sorted ys
 inserted-sorted x xs ys i h = subst Sorted (sym i.new) (sorted-put i.front x i.back (subst Sorted i.old h) i.low i.high)
 
 -- an insertion into a part of a list
-pub inserted-within : (x : Tree) (ps ys zs qs : List Tree) → Each (λ y. Before y x) ps → Each (λ y. Before x y) qs → Inserted x ys zs → Inserted x (ps ++ (ys ++ qs)) (ps ++ (zs ++ qs))
+pub inserted-within : (x : Tree) (ps ys zs qs : List Tree) → Each (λ y. Before y x) ps → Each (λ y. Before x y) qs → Inserted x ys zs
+    → Inserted x (ps ++ (ys ++ qs)) (ps ++ (zs ++ qs))
 inserted-within x ps ys zs qs a b i = record {
   front = ps ++ i.front;
   back = i.back ++ qs;
@@ -117,7 +123,13 @@ each-put P x xs ys i h a =
     subst (Each P) (sym i.new) (each-join P i.front (x ∷ i.back) (each-front P i.front i.back all) (h, each-back P i.front i.back all))
 
 pub top-stays : (x t : Tree) (xs ys : List Tree) → Inserted x xs ys → IsTop t xs → BoundUpTo t x → IsTop t ys
-top-stays x t xs ys i h b = record { among = subst (Among t) (sym i.new) (among-put t i.front x i.back (subst (Among t) i.old h.among)); most = each-put (BoundUpTo t) x xs ys i b h.most }
+top-stays x t xs ys i h b = record {
+  among = subst (Among t) (sym i.new) (among-put t i.front x i.back (subst (Among t) i.old h.among));
+  most = each-put (BoundUpTo t) x xs ys i b h.most;
+}
 
 pub top-rises : (x t : Tree) (xs ys : List Tree) → Inserted x xs ys → IsTop t xs → BoundUpTo x t → IsTop x ys
-top-rises x t xs ys i h b = record { among = subst (Among x) (sym i.new) (among-here x i.front i.back); most = each-put (BoundUpTo x) x xs ys i (bound-self x) (each-map xs (λ y g. bound-trans x t y b g) h.most) }
+top-rises x t xs ys i h b = record {
+  among = subst (Among x) (sym i.new) (among-here x i.front i.back);
+  most = each-put (BoundUpTo x) x xs ys i (bound-self x) (each-map xs (λ y g. bound-trans x t y b g) h.most);
+}

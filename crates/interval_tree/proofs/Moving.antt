@@ -1,5 +1,6 @@
 -- Links go from one owned node to another.
-use Rattle.std.proofs.Common.{◌≡◌, ◌≢◌, ℕ, zero, suc, ◌+◌, ◌-◌, ◌<◌, ◌≤◌, List, [], ◌∷◌, ◌++◌, length, replicate, length-append, append_assoc, sym, refl, ap, ◌∙◌, subst, arith}
+use Rattle.std.proofs.Common.{◌≡◌, ◌≢◌, ℕ, zero, suc, ◌+◌, ◌-◌, ◌<◌, ◌≤◌, List, [], ◌∷◌, ◌++◌, length, replicate, length-append, append_assoc, sym, refl, ap}
+use Rattle.std.proofs.Common.{◌∙◌, subst, arith}
 use Rattle.row_pool.specs.Chains.{IsChain}
 use Rattle.row_pool.specs.Changes.{with_old_target}
 use Rattle.row_pool.specs.SeatView.{SeatView}
@@ -21,7 +22,9 @@ pub record One (v x : SeatView) (from to a b n moved : ℕ) (kind m kind2 m2 : �
   pub refs : x.refs ≡ with_old_target first v.refs
   pub out : OwnsNode x from kind m (us ++ nil ∷ (later ++ vs))
 
-pub one : (v x : SeatView) (from to a b n moved : ℕ) → Swaps v x from a 0 moved → OthersStand from v x → 0 < n → (kind m kind2 m2 : ℕ) (us ms vs ws xs : List Tree) → OwnsNode v from kind m (us ++ (ms ++ vs)) → length us ≡ a → length ms ≡ n → OwnsNode v to kind2 m2 (ws ++ (replicate n nil ++ xs)) → length ws ≡ b → from ≢ to → One v x from to a b n moved kind m kind2 m2 us ms vs ws xs
+pub one : (v x : SeatView) (from to a b n moved : ℕ) → Swaps v x from a 0 moved → OthersStand from v x → 0 < n
+    → (kind m kind2 m2 : ℕ) (us ms vs ws xs : List Tree) → OwnsNode v from kind m (us ++ (ms ++ vs)) → length us ≡ a → length ms ≡ n
+    → OwnsNode v to kind2 m2 (ws ++ (replicate n nil ++ xs)) → length ws ≡ b → from ≢ to → One v x from to a b n moved kind m kind2 m2 us ms vs ws xs
 one v x from to a b n moved f others low kind m kind2 m2 us [] vs ws xs o at many p at2 apart = absurd (omega arith)
 one v x from to a b n moved f others low kind m kind2 m2 us (t ∷ ms) vs ws xs o at many p at2 apart =
     let z = f kind m us (ms ++ vs) t nil v.refs o at refl refl in
@@ -33,7 +36,8 @@ one v x from to a b n moved f others low kind m kind2 m2 us (t ∷ ms) vs ws xs 
       mid_from = o;
       out = z.1;
       refs = z.2;
-      mid_to = owns-others from v x to kind2 m2 (ws ++ nil ∷ (replicate (n - 1) nil ++ xs)) others (λ e. apart (sym e)) (subst (λ l. OwnsNode v to kind2 m2 (ws ++ (l ++ xs))) (gaps-one n low) p);
+      mid_to = owns-others from v x to kind2 m2 (ws ++ nil ∷ (replicate (n - 1) nil ++ xs)) others (λ e. apart (sym e))
+          (subst (λ l. OwnsNode v to kind2 m2 (ws ++ (l ++ xs))) (gaps-one n low) p);
     }
 
 -- both swaps
@@ -48,7 +52,9 @@ pub record Two (w : SeatView) (from to a b n : ℕ) (v : SeatView) (kind m kind2
   pub to_place : length (ws ++ first ∷ []) ≡ b + 1
   pub refs : w.refs ≡ v.refs
 
-pub two : (v x w : SeatView) (from to a b n moved answer : ℕ) → Swaps v x from a 0 moved → OthersStand from v x → Swaps x w to b moved answer → OthersStand to x w → 0 < n → (kind m kind2 m2 : ℕ) (us ms vs ws xs : List Tree) → OwnsNode v from kind m (us ++ (ms ++ vs)) → length us ≡ a → length ms ≡ n → OwnsNode v to kind2 m2 (ws ++ (replicate n nil ++ xs)) → length ws ≡ b → from ≢ to → Two w from to a b n v kind m kind2 m2 us ms vs ws xs
+pub two : (v x w : SeatView) (from to a b n moved answer : ℕ) → Swaps v x from a 0 moved → OthersStand from v x → Swaps x w to b moved answer
+    → OthersStand to x w → 0 < n → (kind m kind2 m2 : ℕ) (us ms vs ws xs : List Tree) → OwnsNode v from kind m (us ++ (ms ++ vs)) → length us ≡ a
+    → length ms ≡ n → OwnsNode v to kind2 m2 (ws ++ (replicate n nil ++ xs)) → length ws ≡ b → from ≢ to → Two w from to a b n v kind m kind2 m2 us ms vs ws xs
 two v x w from to a b n moved answer f others g others2 low kind m kind2 m2 us ms vs ws xs o at many p at2 apart =
     let q = one v x from to a b n moved f others low kind m kind2 m2 us ms vs ws xs o at many p at2 apart in
     let z = g kind2 m2 ws (replicate (n - 1) nil ++ xs) nil q.first v.refs q.mid_to at2 q.refs (sym q.is) in
@@ -57,7 +63,8 @@ two v x w from to a b n moved answer f others g others2 low kind m kind2 m2 us m
       first = q.first;
       later = q.later;
       split = q.split;
-      from_owns = subst (OwnsNode w from kind m) (sym (append_assoc us (nil ∷ []) (q.later ++ vs))) (owns-others to x w from kind m (us ++ nil ∷ (q.later ++ vs)) others2 apart q.out);
+      from_owns = subst (OwnsNode w from kind m) (sym (append_assoc us (nil ∷ []) (q.later ++ vs)))
+          (owns-others to x w from kind m (us ++ nil ∷ (q.later ++ vs)) others2 apart q.out);
       from_place = omega (arith, length-append us (nil ∷ []));
       many = omega arith;
       to_owns = subst (OwnsNode w to kind2 m2) (sym (append_assoc ws (q.first ∷ []) (replicate (n - 1) nil ++ xs))) z.1;
@@ -65,7 +72,8 @@ two v x w from to a b n moved answer f others g others2 low kind m kind2 m2 us m
       refs = z.2;
     }
 
-pub all-moved : (v x w y : SeatView) (from to a b n moved answer : ℕ) → Swaps v x from a 0 moved → OthersStand from v x → Swaps x w to b moved answer → OthersStand to x w → 0 < n → MovesLinks w y from to (a + 1) (b + 1) (n - 1) → MovesLinks v y from to a b n
+pub all-moved : (v x w y : SeatView) (from to a b n moved answer : ℕ) → Swaps v x from a 0 moved → OthersStand from v x → Swaps x w to b moved answer
+    → OthersStand to x w → 0 < n → MovesLinks w y from to (a + 1) (b + 1) (n - 1) → MovesLinks v y from to a b n
 all-moved v x w y from to a b n moved answer f others g others2 low h kind m kind2 m2 us ms vs ws xs o at many p at2 apart =
     let t = two v x w from to a b n moved answer f others g others2 low kind m kind2 m2 us ms vs ws xs o at many p at2 apart in
     let z = h kind m kind2 m2 (us ++ nil ∷ []) t.later vs (ws ++ t.first ∷ []) xs t.from_owns t.from_place t.many t.to_owns t.to_place apart in (

@@ -1,5 +1,6 @@
 -- A full child is split, its middle item and one half are linked, and the item goes to one of the two. A full root grows.
-use Rattle.std.proofs.Common.{◌≡◌, ◌≢◌, ℕ, suc, ◌+◌, ◌<◌, ◌≤◌, ◌^◌, List, [], ◌∷◌, ◌++◌, length, append_assoc, replicate, false, sym, refl, ap, ◌∙◌, subst, arith}
+use Rattle.std.proofs.Common.{◌≡◌, ◌≢◌, ℕ, suc, ◌+◌, ◌<◌, ◌≤◌, ◌^◌, List, [], ◌∷◌, ◌++◌, length, append_assoc, replicate, false, sym, refl, ap, ◌∙◌, subst}
+use Rattle.std.proofs.Common.{arith}
 use lib.ListN.{get_elem?}
 use Rattle.row_pool.specs.Chains.{IsChain}
 use Rattle.row_pool.specs.Lists.{mem}
@@ -10,7 +11,8 @@ use Rattle.row_pool.specs.declared.chain.Chain.{Chain}
 use Rattle.latch_item.specs.Items.{IsLatch}
 use Rattle.latch_item.specs.Shape.{IsTop, Kid, Node}
 use Rattle.interval_tree.proofs.Cutting.{node-body}
-use Rattle.interval_tree.proofs.Frames.{mem-cons, mem-more, owns-kept, owns-others, spends-add, spends-join, spends-others, spends-rotate, spends-swap, spends-swap-after}
+use Rattle.interval_tree.proofs.Frames.{mem-cons, mem-more, owns-kept, owns-others, spends-add, spends-join, spends-others, spends-rotate, spends-swap}
+use Rattle.interval_tree.proofs.Frames.{spends-swap-after}
 use Rattle.interval_tree.proofs.Fresh.{node-most}
 use Rattle.interval_tree.proofs.Holes.{hole-left, hole-right, item-place}
 use Rattle.interval_tree.proofs.Linking.{gap-place, kid-row-of, shallow}
@@ -111,7 +113,8 @@ right-linked h s r w row kind n top m i right sort us ps qs rs ws o few latch ow
     (us', subst (OwnsNode w row kind (n + 1)) e z.owns, hole, z.refs)
 
 -- ---- the chain through a split and a link; v before, s split, r with the middle item, w with the half linked
-pub right-spends : (v s r w : SeatView) (row child right kind n : ℕ) (us : List Tree) (rs : List ℕ) (d : Chain) (a : Spends 1 (child ∷ []) (child ∷ right ∷ []) rs v s d)
+pub right-spends : (v s r w : SeatView) (row child right kind n : ℕ) (us : List Tree) (rs : List ℕ) (d : Chain)
+    (a : Spends 1 (child ∷ []) (child ∷ right ∷ []) rs v s d)
     → OwnsNode s row kind n us → OthersStand row s r
     → ((rs : List ℕ) (c : Chain) → IsChain r c rs → Spends 0 (row ∷ child ∷ []) (row ∷ []) rs r w c) → Spends 1 (row ∷ child ∷ []) (row ∷ right ∷ []) rs v w d
 right-spends v s r w row child right kind n us rs d a owns others link =
@@ -123,7 +126,8 @@ right-spends v s r w row child right kind n us rs d a owns others link =
     spends-join 1 0 (row ∷ child ∷ []) (row ∷ child ∷ right ∷ []) (row ∷ right ∷ []) rs v s w d d s1
     (spends-join 0 0 (row ∷ child ∷ right ∷ []) (row ∷ child ∷ right ∷ []) (row ∷ right ∷ []) s1.left s r w d d s2 s3)
 
-pub left-spends : (v s r w : SeatView) (row child right kind n : ℕ) (us : List Tree) (rs : List ℕ) (d : Chain) (a : Spends 1 (child ∷ []) (child ∷ right ∷ []) rs v s d)
+pub left-spends : (v s r w : SeatView) (row child right kind n : ℕ) (us : List Tree) (rs : List ℕ) (d : Chain)
+    (a : Spends 1 (child ∷ []) (child ∷ right ∷ []) rs v s d)
     → OwnsNode s row kind n us → OthersStand row s r
     → ((rs : List ℕ) (c : Chain) → IsChain r c rs → Spends 0 (row ∷ right ∷ []) (row ∷ []) rs r w c) → Spends 1 (row ∷ child ∷ []) (row ∷ child ∷ []) rs v w d
 left-spends v s r w row child right kind n us rs d a owns others link =

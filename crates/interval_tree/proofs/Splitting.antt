@@ -1,16 +1,21 @@
 -- The steps of a split.
-use Rattle.std.proofs.Common.{◌≡◌, ◌≢◌, ℕ, suc, ◌+◌, ◌-◌, ◌<◌, ◌≤◌, ◌^◌, List, [], ◌∷◌, ◌++◌, length, replicate, length-append, append_assoc, append-nil, sym, refl, ap, ◌∙◌, subst, arith}
+use Rattle.std.proofs.Common.{◌≡◌, ◌≢◌, ℕ, zero, suc, ◌+◌, ◌-◌, ◌<◌, ◌≤◌, ◌^◌, List, [], ◌∷◌, ◌++◌, map, take, drop, length, replicate}
+use Rattle.std.proofs.Common.{length-append, append_assoc, append-nil, sym, refl, ap, ◌∙◌, subst, arith}
+use Rattle.std.proofs.Math.Seq.{drop-append_seam, take-append_seam}
+use mathlib.Core.Option.{some-injective}
 use Rattle.row_pool.specs.Chains.{IsChain}
 use Rattle.row_pool.specs.SeatView.{SeatView}
-use Rattle.row_pool.specs.Trees.{Tree, nil, tree_word}
+use Rattle.row_pool.specs.Trees.{Entry, Link, Tree, nil, own, to, tree_word}
 use Rattle.row_pool.specs.declared.chain.Chain.{Chain}
-use Rattle.interval_tree.proofs.Cutting.{Parts, parts-of}
+use Rattle.latch_item.specs.Items.{IsLatch}
+use Rattle.latch_item.specs.Shape.{Each, Pairs, Spread}
+use Rattle.interval_tree.proofs.Cutting.{Parts, leaf-none, parts-leaf, parts-of}
 use Rattle.interval_tree.proofs.Frames.{owns-others, spends-add, spends-join, spends-others}
 use Rattle.interval_tree.proofs.Rows.{back-cons}
 use Rattle.interval_tree.specs.Held.{OthersStand, OwnsNode, Spends}
-use Rattle.interval_tree.specs.Nodes.{Body}
+use Rattle.interval_tree.specs.Nodes.{Body, LevelKid}
 use Rattle.interval_tree.specs.States.{CutParts}
-use Rattle.interval_tree.specs.Steps.{CanMove, CanSwap, MovesLinks, Swaps}
+use Rattle.interval_tree.specs.Steps.{CanMove, CanSwap, HasNoChildren, MovesLinks, Swaps}
 
 -- both rows at one moment
 pub record Both (w : SeatView) (row right kind n k : ℕ) (us vs : List Tree) : Type 0 where
@@ -25,12 +30,15 @@ front-long h kind us xs p = let a = p.left_items in omega (arith, length-append 
 
 -- before the items go
 pub links-one : (h kind : ℕ) (us xs : List Tree) (p : Parts h kind us xs) → us ≡ front p ++ (p.js ++ (p.cs ++ p.ds))
-links-one h kind us xs p = p.links ∙ ap (λ l. p.top ∷ l) (append_assoc p.is (p.m ∷ p.js) (p.cs ++ p.ds) ∙ sym (append_assoc p.is (p.m ∷ []) (p.js ++ (p.cs ++ p.ds))))
+links-one h kind us xs p = p.links ∙ ap (λ l. p.top ∷ l) (append_assoc p.is (p.m ∷ p.js) (p.cs ++ p.ds)
+    ∙ sym (append_assoc p.is (p.m ∷ []) (p.js ++ (p.cs ++ p.ds))))
 
-pub first-move : (h : ℕ) (f a : SeatView) (row right kind : ℕ) (us xs : List Tree) (p : Parts h kind us xs) → OwnsNode f row kind 31 us → OwnsNode f right kind 15 (replicate 64 nil) → row ≢ right → MovesLinks f a row right 17 1 15
+pub first-move : (h : ℕ) (f a : SeatView) (row right kind : ℕ) (us xs : List Tree) (p : Parts h kind us xs) → OwnsNode f row kind 31 us
+    → OwnsNode f right kind 15 (replicate 64 nil) → row ≢ right → MovesLinks f a row right 17 1 15
     → Both a row right kind 31 15 (front p ++ (replicate 15 nil ++ (p.cs ++ p.ds))) ((nil ∷ []) ++ (p.js ++ replicate 48 nil))
 first-move h f a row right kind us xs p o r apart g =
-    let z = g kind 31 kind 15 (front p) p.js (p.cs ++ p.ds) (nil ∷ []) (replicate 48 nil) (subst (OwnsNode f row kind 31) (links-one h kind us xs p) o) (front-long h kind us xs p) p.right_items r refl apart in
+    let z = g kind 31 kind 15 (front p) p.js (p.cs ++ p.ds) (nil ∷ []) (replicate 48 nil) (subst (OwnsNode f row kind 31) (links-one h kind us xs p) o)
+    (front-long h kind us xs p) p.right_items r refl apart in
     record { left_owns = z.0; right_owns = z.1 }
 
 abbrev pub second-front : {h kind : ℕ} {us xs : List Tree} → Parts h kind us xs → List Tree
@@ -40,21 +48,27 @@ abbrev pub second-right : {h kind : ℕ} {us xs : List Tree} → Parts h kind us
 second-right p = (nil ∷ []) ++ (p.js ++ replicate 16 nil)
 
 -- before the children go
-pub second : (h : ℕ) (a : SeatView) (row right kind : ℕ) (us xs : List Tree) (p : Parts h kind us xs) → Both a row right kind 31 15 (front p ++ (replicate 15 nil ++ (p.cs ++ p.ds))) ((nil ∷ []) ++ (p.js ++ replicate 48 nil))
+pub second : (h : ℕ) (a : SeatView) (row right kind : ℕ) (us xs : List Tree) (p : Parts h kind us xs)
+    → Both a row right kind 31 15 (front p ++ (replicate 15 nil ++ (p.cs ++ p.ds))) ((nil ∷ []) ++ (p.js ++ replicate 48 nil))
     → Both a row right kind 31 15 (second-front p ++ (p.ds ++ [])) (second-right p ++ (replicate 16 nil ++ replicate 16 nil))
 second h a row right kind us xs p b = record {
-  left_owns = subst (OwnsNode a row kind 31) (ap (λ l. front p ++ l) (sym (append_assoc (replicate 15 nil) p.cs p.ds)) ∙ sym (append_assoc (front p) (replicate 15 nil ++ p.cs) p.ds) ∙ ap (λ l. second-front p ++ l) (sym (append-nil p.ds))) b.left_owns;
+  left_owns = subst (OwnsNode a row kind 31) (ap (λ l. front p ++ l) (sym (append_assoc (replicate 15 nil) p.cs p.ds))
+      ∙ sym (append_assoc (front p) (replicate 15 nil ++ p.cs) p.ds) ∙ ap (λ l. second-front p ++ l) (sym (append-nil p.ds))) b.left_owns;
   right_owns = subst (OwnsNode a right kind 15) (ap (λ l. nil ∷ l) (sym (append_assoc p.js (replicate 16 nil) (replicate 32 nil)))) b.right_owns;
 }
 
 pub second-places : (h kind : ℕ) (us xs : List Tree) (p : Parts h kind us xs) → (length (second-front p) ≡ 48) × (length (second-right p) ≡ 32)
 second-places h kind us xs p = (
-  let a = front-long h kind us xs p in let b = p.left_kids in omega (arith, length-append (front p) (replicate 15 nil ++ p.cs), length-append (replicate 15 nil) p.cs),
+  let a = front-long h kind us xs p in let b = p.left_kids in
+      omega (arith, length-append (front p) (replicate 15 nil ++ p.cs), length-append (replicate 15 nil) p.cs),
   let a = p.right_items in omega (arith, length-append p.js (replicate 16 nil)),
 )
 
-pub second-move : (h : ℕ) (a b : SeatView) (row right kind : ℕ) (us xs : List Tree) (p : Parts h kind us xs) → Both a row right kind 31 15 (second-front p ++ (p.ds ++ [])) (second-right p ++ (replicate 16 nil ++ replicate 16 nil)) → row ≢ right → MovesLinks a b row right 48 32 16
-    → Both b row right kind 31 15 ((p.top ∷ p.is) ++ p.m ∷ (replicate 15 nil ++ (p.cs ++ replicate 16 nil))) (nil ∷ ((p.js ++ replicate 16 nil) ++ (p.ds ++ replicate 16 nil)))
+pub second-move : (h : ℕ) (a b : SeatView) (row right kind : ℕ) (us xs : List Tree) (p : Parts h kind us xs)
+    → Both a row right kind 31 15 (second-front p ++ (p.ds ++ [])) (second-right p ++ (replicate 16 nil ++ replicate 16 nil)) → row ≢ right
+    → MovesLinks a b row right 48 32 16
+    → Both b row right kind 31 15 ((p.top ∷ p.is) ++ p.m ∷ (replicate 15 nil ++ (p.cs ++ replicate 16 nil)))
+    (nil ∷ ((p.js ++ replicate 16 nil) ++ (p.ds ++ replicate 16 nil)))
 second-move h a b row right kind us xs p q apart g =
     let l = second-places h kind us xs p in
     let z = g kind 31 kind 15 (second-front p) p.ds [] (second-right p) (replicate 16 nil) q.left_owns l.0 p.right_kids q.right_owns l.1 apart in
@@ -63,14 +77,73 @@ second-move h a b row right kind us xs p q apart g =
       right_owns = z.1;
     }
   where
-    around : (t : Tree) (is : List Tree) (m : Tree) (gs cs es : List Tree) → ((t ∷ (is ++ m ∷ [])) ++ (gs ++ cs)) ++ (es ++ []) ≡ (t ∷ is) ++ m ∷ (gs ++ (cs ++ es))
-    around t is m gs cs es = ap (λ l. t ∷ l) (append_assoc (is ++ m ∷ []) (gs ++ cs) (es ++ []) ∙ append_assoc is (m ∷ []) ((gs ++ cs) ++ (es ++ [])) ∙ ap (λ l. is ++ m ∷ l) (append_assoc gs cs (es ++ []) ∙ ap (λ l. gs ++ (cs ++ l)) (append-nil es)))
+    around : (t : Tree) (is : List Tree) (m : Tree) (gs cs es : List Tree) → ((t ∷ (is ++ m ∷ [])) ++ (gs ++ cs)) ++ (es ++ [])
+        ≡ (t ∷ is) ++ m ∷ (gs ++ (cs ++ es))
+    around t is m gs cs es = ap (λ l. t ∷ l) (append_assoc (is ++ m ∷ []) (gs ++ cs) (es ++ []) ∙ append_assoc is (m ∷ []) ((gs ++ cs) ++ (es ++ []))
+        ∙ ap (λ l. is ++ m ∷ l) (append_assoc gs cs (es ++ []) ∙ ap (λ l. gs ++ (cs ++ l)) (append-nil es)))
+
+-- ---- a leaf has no children that could go
+module _ {A : Type 0} where
+  part : (us ms vs : List A) (i n : ℕ) → length us ≡ i → length ms ≡ n → take n (drop i (us ++ (ms ++ vs))) ≡ ms
+  part us ms vs i n place long = ap (λ k. take k (drop i (us ++ (ms ++ vs)))) (sym long) ∙ ap (λ k. take (length ms) (drop k (us ++ (ms ++ vs)))) (sym place)
+      ∙ ap (take (length ms)) (drop-append_seam us (ms ++ vs)) ∙ take-append_seam ms vs
+
+  same-part : (us ms vs fs gs hs : List A) (i n : ℕ) → length us ≡ i → length ms ≡ n → length fs ≡ i → length gs ≡ n
+      → us ++ (ms ++ vs) ≡ fs ++ (gs ++ hs) → ms ≡ gs
+  same-part us ms vs fs gs hs i n place long place2 long2 e =
+      sym (part us ms vs i n place long) ∙ ap (λ l. take n (drop i l)) e ∙ part fs gs hs i n place2 long2
+
+led : Link → Tree
+led (to t) = t
+led (own r) = nil
+
+all-led : (us : List Tree) → map led (map to us) ≡ us
+unfolding led
+all-led [] = refl
+all-led (u ∷ us) = ap (λ l. u ∷ l) (all-led us)
+
+-- the links of an owned node are determined
+same-links : (v : SeatView) (r kind n sort m : ℕ) (us vs : List Tree) → OwnsNode v r kind n us → OwnsNode v r sort m vs → us ≡ vs
+same-links v r kind n sort m us vs a b =
+    let same : a.entry ≡ b.entry = some-injective a.entry b.entry (sym a.has ∙ b.has) in
+    sym (all-led us) ∙ ap (map led) (sym a.links ∙ ap (λ (e : Entry). e.links) same ∙ b.links) ∙ all-led vs
+
+pub none-moved : (v : SeatView) (from goal : ℕ) → HasNoChildren v from → MovesLinks v v from goal 48 32 16
+none-moved v from goal (sort, m, fs, bs, none, first) kind n kind2 n2 us ms vs ws xs o place long p place2 apart =
+    let empty : ms ≡ replicate 16 nil = same-part us ms vs fs (replicate 16 nil) bs 48 16 place long first refl
+    (same-links v from kind n sort m (us ++ (ms ++ vs)) (fs ++ (replicate 16 nil ++ bs)) o none) in (
+      subst (λ l. OwnsNode v from kind n (us ++ (l ++ vs))) empty o,
+      subst (λ l. OwnsNode v goal kind2 n2 (ws ++ (l ++ xs))) (sym empty) p,
+    )
+
+pub second-none : (h : ℕ) (f a : SeatView) (row right kind : ℕ) (us xs : List Tree) → Body h kind 31 us xs → kind ≢ 3 → OwnsNode f row kind 31 us
+    → OwnsNode f right kind 15 (replicate 64 nil) → row ≢ right → MovesLinks f a row right 17 1 15 → HasNoChildren a row
+second-none (suc h) f a row right kind us xs b leaf o r apart g = absurd (leaf b.is)
+second-none zero f a row right kind us xs b leaf o r apart g = go b.its b.cs b.yss b.spread b.items b.many b.below
+  where
+    go : (its cs : List Tree) (yss : List (List Tree)) → Spread 31 us b.top its cs → Each IsLatch its → length cs ≡ 0 → Pairs (LevelKid zero) cs yss
+        → HasNoChildren a row
+    go its [] yss s i m q =
+        let p = parts-leaf kind us its b.top b.is s i in
+        let both = second zero a row right kind us its p (first-move zero f a row right kind us its p o r apart g) in (
+          kind,
+          31,
+          second-front p,
+          [],
+          subst (λ l. OwnsNode a row kind 31 (second-front p ++ (l ++ []))) (leaf-none kind us its b.top b.is s i) both.left_owns,
+          (second-places zero kind us its p).0,
+        )
+    go its (x ∷ cs) yss s i m q = absurd (omega arith)
 
 -- the middle item comes out
-pub taken-middle : (h : ℕ) (b d : SeatView) (row right kind result : ℕ) (us xs : List Tree) (p : Parts h kind us xs) → Both b row right kind 31 15 ((p.top ∷ p.is) ++ p.m ∷ (replicate 15 nil ++ (p.cs ++ replicate 16 nil))) (nil ∷ ((p.js ++ replicate 16 nil) ++ (p.ds ++ replicate 16 nil))) → right ≢ row → Swaps b d row 16 0 result → OthersStand row b d
-    → Both d row right kind 31 15 (p.top ∷ ((p.is ++ replicate 16 nil) ++ (p.cs ++ replicate 16 nil))) (nil ∷ ((p.js ++ replicate 16 nil) ++ (p.ds ++ replicate 16 nil))) × (tree_word p.m ≡ suc (result - 1)) × (d.refs ≡ p.m ∷ b.refs) × (1 ≤ result)
+pub taken-middle : (h : ℕ) (b d : SeatView) (row right kind result : ℕ) (us xs : List Tree) (p : Parts h kind us xs)
+    → Both b row right kind 31 15 ((p.top ∷ p.is) ++ p.m ∷ (replicate 15 nil ++ (p.cs ++ replicate 16 nil)))
+    (nil ∷ ((p.js ++ replicate 16 nil) ++ (p.ds ++ replicate 16 nil))) → right ≢ row → Swaps b d row 16 0 result → OthersStand row b d
+    → Both d row right kind 31 15 (p.top ∷ ((p.is ++ replicate 16 nil) ++ (p.cs ++ replicate 16 nil)))
+    (nil ∷ ((p.js ++ replicate 16 nil) ++ (p.ds ++ replicate 16 nil))) × (tree_word p.m ≡ suc (result - 1)) × (d.refs ≡ p.m ∷ b.refs) × (1 ≤ result)
 taken-middle h b d row right kind result us xs p q apart g others =
-    let z = g kind 31 (p.top ∷ p.is) (replicate 15 nil ++ (p.cs ++ replicate 16 nil)) p.m nil b.refs q.left_owns (let a = p.left_items in omega arith) refl refl in
+    let z = g kind 31 (p.top ∷ p.is) (replicate 15 nil ++ (p.cs ++ replicate 16 nil)) p.m nil b.refs q.left_owns (let a = p.left_items in
+    omega arith) refl refl in
     let is : tree_word p.m ≡ suc (result - 1) = (let a = p.latch.here in let e = z.0 in omega arith) in (
       record {
         left_owns = subst (OwnsNode d row kind 31) (ap (λ l. p.top ∷ l) (sym (append_assoc p.is (replicate 16 nil) (p.cs ++ replicate 16 nil)))) z.1;

@@ -101,14 +101,16 @@ item-written v w tree c d row r x items rs n keeps ids is at whole rest (e, next
         unlinked = (let a = free.uncounted in omega arith);
         differs = each-map items (λ y low. ids-differ (item_of y) x (λ z. let a = low in omega arith)) ids;
       };
-      chain = chain-on v w d rs (λ q m. only.others q (λ z. true≢false (sym m ∙ ap (λ k. mem k rs) (z ∙ at) ∙ strung-apart v r rs c.head whole.linked_from))) rest;
+      chain = chain-on v w d rs (λ q m. only.others q (λ z. true≢false (sym m ∙ ap (λ k. mem k rs) (z ∙ at) ∙ strung-apart v r rs c.head whole.linked_from)))
+          rest;
       all = λ q g there. ⊎_elim (λ (z : q ≡ row). subst (λ k. mem q (k ∷ rs) ≡ true) z (mem-here q rs))
           (λ (ne : q ≢ row). subst (λ k. mem q (k ∷ rs) ≡ true) (sym at) (all q g (sym (only.others q ne) ∙ there))) (same_or q row);
       refs = only.refs;
     }
 
 -- the tree has grown
-pub added : (pool : TableId) (s z : SeatState) (w : SeatView) (tree new : Tree) (c d : Chain) (row n : ℕ) (x : Item) (items ys : List Row) (it : Row) (rs roots : List ℕ)
+pub added : (pool : TableId) (s z : SeatState) (w : SeatView) (tree new : Tree) (c d : Chain) (row n : ℕ) (x : Item) (items ys : List Row) (it : Row)
+    (rs roots : List ℕ)
     → z.table ≡ pool → s.view.number ≡ 1 → s.view.out ≡ [] → Each (λ y. (item_of y).id < n) items → HasRefs roots (other_refs tree s.view.refs)
     → without_trees roots (other_refs tree s.view.refs) ≡ [] → w.number ≡ s.view.number → w.out ≡ s.view.out → Written s.view w tree c row x items rs
     → x.id ≡ n → IsItemOf it x → Inserted it items ys → Keeps z.view new ys → other_refs new z.view.refs ≡ other_refs tree w.refs
@@ -137,7 +139,8 @@ added pool s z w tree new c d row n x items ys it rs roots table first alone ids
     refs = others ∙ ap (other_refs tree) o.refs
 
 -- more may be added later
-pub growing-more : (pool : TableId) (s : SeatState) (c : Chain) (t : Tree) (n : ℕ) (roots : List ℕ) → Growing pool s c t n roots → Growing pool s c t (n + 1) roots
+pub growing-more : (pool : TableId) (s : SeatState) (c : Chain) (t : Tree) (n : ℕ) (roots : List ℕ) → Growing pool s c t n roots
+    → Growing pool s c t (n + 1) roots
 growing-more pool s c t n roots g = record {
   table = g.table;
   first = g.first;

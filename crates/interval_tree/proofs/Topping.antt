@@ -1,5 +1,6 @@
 -- The first link of a node is set.
-use Rattle.std.proofs.Common.{◌≡◌, ◌≢◌, ⊎_elim, inl, inr, ℕ, zero, suc, ◌+◌, ◌-◌, ◌<◌, ◌≤◌, ◌^◌, List, [], ◌∷◌, ◌++◌, length, replicate, length-append, append_assoc, sym, refl, ap, ◌∙◌, subst, arith}
+use Rattle.std.proofs.Common.{◌≡◌, ◌≢◌, ⊎_elim, inl, inr, ℕ, zero, suc, ◌+◌, ◌-◌, ◌<◌, ◌≤◌, ◌^◌, List, [], ◌∷◌, ◌++◌, length, replicate, length-append}
+use Rattle.std.proofs.Common.{append_assoc, sym, refl, ap, ◌∙◌, subst, arith}
 use Rattle.std.proofs.lemmas.List.{length-replicate}
 use Rattle.row_pool.proofs.NewestRef.{tree_of-first, without_tree-first}
 use Rattle.row_pool.specs.Chains.{ChainGrows, IsChain}
@@ -73,7 +74,8 @@ meets h kind n us xs b some_items = go b.its b.spread b.list b.items
           whole = s.links;
           one = s.links ∙ ap (λ l. b.top ∷ x ∷ l) (append_assoc its (replicate s.free nil) (b.cs ++ replicate s.room nil));
           three = s.links;
-          long = (let a = s.count in let c = s.items in let d = length-replicate {A = Tree} s.free nil in let g = length-append its (replicate s.free nil) in omega arith);
+          long = (let a = s.count in let c = s.items in let d = length-replicate {A = Tree} s.free nil in let g = length-append its (replicate s.free nil) in
+              omega arith);
           few = s.count;
           low = (let a = s.items in omega arith);
           many = b.many;
@@ -159,7 +161,8 @@ meets-children v row h kind n count item us xs m o many x = (
 pub meets-found : (v : SeatView) (row h kind n count item result : ℕ) (us xs : List Tree) (m : Meets h kind n us xs) → OwnsNode v row kind n us
     → Many h count n → Best v m.first m.its item → BestBelow v row 32 count item result → Greatest v xs result
 meets-found v row h kind n count item result us xs m o many x best = found v h kind n us xs m item result x
-    (best h kind n m.front m.cs m.ws m.yss x.item (subst (OwnsNode v row kind n) m.three o) m.long (many-same h (length m.cs) count n m.many many) m.pairs x.reached)
+    (best h kind n m.front m.cs m.ws m.yss x.item (subst (OwnsNode v row kind n) m.three o) m.long (many-same h (length m.cs) count n m.many many) m.pairs
+    x.reached)
 
 -- ---- the first link takes another item
 pub replace-swap : (v w : SeatView) (row item kind n : ℕ) (u t : Tree) (us : List Tree) → OwnsNode v row kind n (u ∷ us) → tree_word t ≡ suc item

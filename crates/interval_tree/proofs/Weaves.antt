@@ -7,7 +7,8 @@ use Rattle.latch_item.specs.Shape.{Each, Sorted, weave}
 use Rattle.interval_tree.proofs.Lists.{before-trans, each-back, each-join, each-map, sorted-back, sorted-under}
 use Rattle.interval_tree.specs.Nodes.{ahead, behind}
 
-pub weave-at : (is js : List Tree) (yss : List (List Tree)) (y : List Tree) (zss : List (List Tree)) → length is ≡ length yss → length js ≡ length zss → weave (is ++ js) (yss ++ y ∷ zss) ≡ ahead is yss ++ (y ++ behind js zss)
+pub weave-at : (is js : List Tree) (yss : List (List Tree)) (y : List Tree) (zss : List (List Tree)) → length is ≡ length yss → length js ≡ length zss
+    → weave (is ++ js) (yss ++ y ∷ zss) ≡ ahead is yss ++ (y ++ behind js zss)
 weave-at [] [] [] y [] a b = simp append-nil
 weave-at [] [] [] y (z ∷ zss) a b = absurd (omega arith)
 weave-at [] (j ∷ js) [] y zss a b = refl
@@ -16,21 +17,25 @@ weave-at (x ∷ is) js [] y zss a b = absurd (omega arith)
 weave-at (x ∷ is) js (ys ∷ yss) y zss a b = let h = weave-at is js yss y zss (omega arith) b in rw h (simp append_assoc)
 
 -- a node cut at the item m
-pub weave-cut : (is : List Tree) (m : Tree) (js : List Tree) (yss : List (List Tree)) (zss : List (List Tree)) → length yss ≡ suc (length is) → weave (is ++ m ∷ js) (yss ++ zss) ≡ weave is yss ++ m ∷ weave js zss
+pub weave-cut : (is : List Tree) (m : Tree) (js : List Tree) (yss : List (List Tree)) (zss : List (List Tree)) → length yss ≡ suc (length is)
+    → weave (is ++ m ∷ js) (yss ++ zss) ≡ weave is yss ++ m ∷ weave js zss
 weave-cut [] m js [] zss a = absurd (omega arith)
 weave-cut [] m js (ys ∷ []) zss a = refl
 weave-cut [] m js (ys ∷ zs ∷ yss) zss a = absurd (omega arith)
 weave-cut (x ∷ is) m js [] zss a = absurd (omega arith)
 weave-cut (x ∷ is) m js (ys ∷ yss) zss a = let h = weave-cut is m js yss zss (omega arith) in rw h (simp append_assoc)
 
-pub ahead-low : (x : Tree) (is : List Tree) (yss : List (List Tree)) (rest : List Tree) → Each (λ y. Before y x) is → Sorted (ahead is yss ++ rest) → Each (λ y. Before y x) (ahead is yss)
+pub ahead-low : (x : Tree) (is : List Tree) (yss : List (List Tree)) (rest : List Tree) → Each (λ y. Before y x) is → Sorted (ahead is yss ++ rest)
+    → Each (λ y. Before y x) (ahead is yss)
 ahead-low x [] yss rest a h = tt
 ahead-low x (i ∷ is) [] rest a h = tt
 ahead-low x (i ∷ is) (ys ∷ yss) rest a h =
     let s : Sorted (ys ++ i ∷ (ahead is yss ++ rest)) = subst Sorted (append_assoc ys (i ∷ ahead is yss) rest) h in
-    each-join (λ y. Before y x) ys (i ∷ ahead is yss) (each-map ys (λ y b. before-trans y i x b a.0) (sorted-under ys i (ahead is yss ++ rest) s)) (a.0, ahead-low x is yss rest a.1 (sorted-back ys (i ∷ (ahead is yss ++ rest)) s).1)
+    each-join (λ y. Before y x) ys (i ∷ ahead is yss) (each-map ys (λ y b. before-trans y i x b a.0) (sorted-under ys i (ahead is yss ++ rest) s))
+    (a.0, ahead-low x is yss rest a.1 (sorted-back ys (i ∷ (ahead is yss ++ rest)) s).1)
 
-pub behind-high : (x : Tree) (js : List Tree) (zss : List (List Tree)) → Each (λ y. Before x y) js → Sorted (behind js zss) → Each (λ y. Before x y) (behind js zss)
+pub behind-high : (x : Tree) (js : List Tree) (zss : List (List Tree)) → Each (λ y. Before x y) js → Sorted (behind js zss)
+    → Each (λ y. Before x y) (behind js zss)
 behind-high x [] zss a h = tt
 behind-high x (j ∷ js) zss a h = (a.0, each-map (weave js zss) (λ y b. before-trans x j y a.0 b) h.0)
 
@@ -38,7 +43,8 @@ pub weave-behind : (js : List Tree) (r : List Tree) (zss : List (List Tree)) →
 weave-behind [] r zss = sym (append-nil r)
 weave-behind (j ∷ js) r zss = refl
 
-pub ahead-more : (is : List Tree) (m : Tree) (yss : List (List Tree)) (l : List Tree) → length is ≡ length yss → ahead (is ++ m ∷ []) (yss ++ l ∷ []) ≡ ahead is yss ++ (l ++ m ∷ [])
+pub ahead-more : (is : List Tree) (m : Tree) (yss : List (List Tree)) (l : List Tree) → length is ≡ length yss → ahead (is ++ m ∷ []) (yss ++ l ∷ [])
+    ≡ ahead is yss ++ (l ++ m ∷ [])
 ahead-more [] m [] l e = refl
 ahead-more [] m (ys ∷ yss) l e = absurd (omega arith)
 ahead-more (i ∷ is) m [] l e = absurd (omega arith)

@@ -1,5 +1,5 @@
--- What the calls on the links of nodes need, and what they do. The newest reference of the seat, or nothing, goes into a link of an owned node, and what the link
--- held becomes the newest reference.
+-- What the calls on the links of nodes need, and what they do. The newest reference of the seat, or nothing, goes into a link of an owned node, and what the
+-- link held becomes the newest reference.
 use Rattle.std.specs.Prelude.{◌≡◌, ◌≢◌, ℕ, suc, ◌+◌, ◌^◌, ◌<◌, ◌≤◌, List, ◌∷◌, ◌++◌, length, replicate}
 use mathlib.Core.Option.{none}
 use Rattle.row_pool.specs.Trees.{Tree, nil, tree_word, children, depth}
@@ -52,6 +52,10 @@ abbrev pub MovesLinks : SeatView → SeatView → ℕ → ℕ → ℕ → ℕ �
 MovesLinks v w from to a b n = (kind m kind' m' : ℕ) (us ms vs ws xs : List Tree) → OwnsNode v from kind m (us ++ (ms ++ vs)) → length us ≡ a → length ms ≡ n
     → OwnsNode v to kind' m' (ws ++ (replicate n nil ++ xs)) → length ws ≡ b → from ≢ to
     → OwnsNode w from kind m (us ++ (replicate n nil ++ vs)) × OwnsNode w to kind' m' (ws ++ (ms ++ xs))
+
+-- the places of the children behind the middle item of a full owned node are empty
+abbrev pub HasNoChildren : SeatView → ℕ → Type 0
+HasNoChildren v row = (kind n : ℕ) × (us vs : List Tree) × OwnsNode v row kind n (us ++ (replicate 16 nil ++ vs)) × (length us ≡ 48)
 
 -- an owned node went live, and the seat has the one reference to it
 pub record WentLive (v w : SeatView) (r kind n : ℕ) (us : List Tree) : Type 0 where

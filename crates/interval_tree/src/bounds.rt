@@ -3,11 +3,12 @@ ghost use Rattle.std.specs.Prelude.{◌≡◌, ◌≢◌, ℕ, suc, ◌+◌, ◌
 ghost use Rattle.row_pool.specs.Trees.{Tree, nil, tree_word};
 ghost use Rattle.row_pool.specs.Views.{Reaches};
 ghost use Rattle.row_pool.specs.Chains.{IsChain};
+ghost use Rattle.row_pool.specs.declared.chain.Chain.{Chain as ChainValue};
 ghost use Rattle.latch_item.specs.Items.{IsLatch};
 ghost use Rattle.latch_item.specs.Shape.{Each, Pairs, IsTop, Node};
 ghost use Rattle.interval_tree.specs.Held.{OwnsNode, Spends, HasRoom};
 ghost use Rattle.interval_tree.specs.Nodes.{LevelKid, Many, Body, Raised, joined};
-ghost use Rattle.interval_tree.specs.Steps.{HasItems, BestItem, HasChildren, BestBelow};
+ghost use Rattle.interval_tree.specs.Steps.{HasItems, BestItem, HasChildren, BestBelow, CanMove, MovesLinks, HasNoChildren};
 ghost use Rattle.interval_tree.specs.States.{ReachesItem, Best, Greatest, CutParts, Halves};
 
 use crate::nodes::{count_of, fresh_node, kind_of, move_links, row_at, set_count, swap, top_of};
@@ -140,6 +141,20 @@ pub(crate) fn raise_top(rows: &Rows, seat: &mut RowSeat, row: u32, item: u32, ch
     }
 }
 
+/// The children behind the middle item of a full owned node go to another one. Nodes of other kinds than 3 have none, and none of their links is looked at.
+fn move_children(rows: &Rows, seat: &mut RowSeat, from: u32, to: u32, kind: u64)
+    requires table { seat.old.table ≡ rows.now }
+    requires links { CanMove seat.old.view from to 48 32 16 }
+    requires none { kind ≢ 3 → HasNoChildren seat.old.view from }
+    ensures same { (seat.new.table ≡ seat.old.table) × (seat.new.view.refs ≡ seat.old.view.refs) }
+    ensures moved { MovesLinks seat.old.view seat.new.view from to 48 32 16 }
+    ensures spends { (rs : List ℕ) (c : ChainValue) → IsChain seat.old.view c rs → Spends 0 (from ∷ to ∷ []) (from ∷ to ∷ []) rs seat.old.view seat.new.view c }
+{
+    if kind == 3 {
+        move_links(rows, seat, from, to, 48, 32, 16);
+    }
+}
+
 /// The items behind the middle one of a full owned node go to a new owned node, with their children, and the middle one comes out. The first links of both
 /// are not set yet.
 fn cut_node(rows: &Rows, seat: &mut RowSeat, row: u32, chain: &mut Chain) -> (u32, u32)
@@ -156,7 +171,7 @@ fn cut_node(rows: &Rows, seat: &mut RowSeat, row: u32, chain: &mut Chain) -> (u3
     let kind = kind_of(rows, seat, row);
     let right = fresh_node(rows, seat, kind, 15, chain);
     move_links(rows, seat, row, right, 17, 1, 15);
-    move_links(rows, seat, row, right, 48, 32, 16);
+    move_children(rows, seat, row, right, kind);
     let middle = swap(rows, seat, row, 16, 0);
     set_count(rows, seat, row, 15);
     (right, (middle - 1) as u32)

@@ -5,9 +5,12 @@ ghost use lib.ListN.{get_elem?};
 ghost use Rattle.row_pool.specs.Trees.{Tree, tree_word, children};
 ghost use Rattle.row_pool.specs.Views.{Reaches};
 ghost use Rattle.row_pool.specs.SeatState.{kind_of};
+ghost use Rattle.latch_item.specs.Shape.{Refers};
 ghost use Rattle.interval_tree.specs.Listings.{Rest, rows_of};
 
+use latch_item::Shot;
 use row_pool::{Memory, RowSeat, Rows};
+use std::alloc::Global;
 
 /// The word of a node with the number of its items, and the first of its links.
 const COUNT: u32 = 2;
@@ -54,7 +57,7 @@ fn list_leaf(
 }
 
 /// The rows of the items of a live node from its child number i on.
-pub(crate) fn list_from(
+fn list_from(
     rows: &Rows,
     seat: &mut RowSeat,
     node: u32,
@@ -81,4 +84,26 @@ pub(crate) fn list_from(
     let item = live_row_at(rows, seat, node, 1 + i);
     out.push(item)?;
     list_from(rows, seat, node, level, i + 1, out)
+}
+
+/// The rows of the items of a shot, in order.
+pub(crate) fn list_shot(
+    alloc: Global,
+    rows: &Rows,
+    seat: &mut RowSeat,
+    shot: &Shot,
+) -> Result<Vec<u32>, Memory>
+    requires table { seat.old.table ≡ rows.now }
+    requires shot { (xs : List Tree) × Refers seat.old.view shot.now xs }
+    ensures same { (seat.new.table ≡ seat.old.table) × (seat.new.view ≡ seat.old.view) }
+    ensures rows { IfOk result (λ v. (xs : List Tree) → Refers seat.old.view shot.now xs → v.items ≡ rows_of xs) }
+{
+    let mut out = Vec::new(alloc);
+    match shot.root {
+        None => Ok(out),
+        Some(root) => {
+            list_from(rows, seat, root, shot.height - 1, 0, &mut out)?;
+            Ok(out)
+        }
+    }
 }

@@ -13,7 +13,7 @@ ghost use Rattle.interval_tree.specs.Listings.{rows_of};
 ghost use Rattle.interval_tree.specs.Trees.{Keeps, IsNewItem, height_of, root_of, other_refs, beside};
 
 use crate::insert::{grow_root, insert_owned};
-use crate::listing::list_from;
+use crate::listing::list_shot;
 use crate::nodes::{count_of, fresh_node, own_node, publish_node, swap};
 use latch_item::Shot;
 use row_pool::{Chain, Memory, RowSeat, Rows};
@@ -205,20 +205,21 @@ impl Tree {
         }
     }
 
-    /// The rows of its items in order. It takes memory, and serves tests.
+    /// The numbers of the rows that hold its items, in the order of the items: by key, then by end, where a single key comes first, then by request, and
+    /// then by place in the request. Neither the tree nor what the seat has changes. `Memory` where a growth of the list was refused.
+    ///
+    /// It serves tests, since it walks the whole tree: for m items in k nodes it follows m + k - 1 links and reads a number of items m + k times, each by one
+    /// load, and takes no other step. The memory that it takes is the list's, 4 bytes an item and what a `Vec` keeps free as it grows.
     pub fn list(&self, alloc: Global, rows: &Rows, seat: &mut RowSeat) -> Result<Vec<u32>, Memory>
         requires table { seat.old.table ≡ rows.now }
         requires tree { (xs : List Row) × Keeps seat.old.view self.now xs }
         ensures same { (seat.new.table ≡ seat.old.table) × (seat.new.view ≡ seat.old.view) }
         ensures rows { IfOk result (λ v. (xs : List Row) → Keeps seat.old.view self.now xs → v.items ≡ rows_of xs) }
     {
-        let mut out = Vec::new(alloc);
-        match self.root {
-            None => Ok(out),
-            Some(root) => {
-                list_from(rows, seat, root, self.height - 1, 0, &mut out)?;
-                Ok(out)
-            }
-        }
+        let shot = Shot {
+            root: self.root,
+            height: self.height,
+        };
+        list_shot(alloc, rows, seat, &shot)
     }
 }

@@ -4,7 +4,7 @@ use Rattle.row_pool.specs.SeatState.{SeatState}
 use Rattle.row_pool.specs.Chains.{IsChain}
 use Rattle.interval_tree.specs.Held.{OwnsNode, Spends, HasRoom}
 use Rattle.interval_tree.proofs.Frames.{Aside, owns-kept, apart-one}
-use Rattle.interval_tree.proofs.Splitting.{cut, first-can, second-can, middle-can, middle-least, cut-spends}
+use Rattle.interval_tree.proofs.Splitting.{cut, first-can, second-can, second-none, middle-can, middle-least, cut-spends}
 use Rattle.interval_tree.proofs.bounds.cut_node.Goals as goal
 use Rattle.interval_tree.proofs.bounds.cut_node.Goals.{After-kind_of-kind, After-fresh_node-right, After-set_count}
 
@@ -48,28 +48,36 @@ move_links-requires-clause-links c =
     first-can h c.fresh_node-right.new.seat.view c.args.row c.fresh_node-right.result kind us xs b k.owns (right-owned at kind us o)
     (apart-one c.args.row c.fresh_node-right.result k.apart) (few at)
 
-pub move_links-requires-2-clause-links : goal.move_links-requires-2-clause-links
-move_links-requires-2-clause-links c =
+pub move_children-requires-clause-links : goal.move_children-requires-clause-links
+move_children-requires-clause-links c =
     let (h, kind, us, xs, o, b) = c.requires.node in
-    let at = (goal.at.move_links-requires-2-clause-links c).After-fresh_node-right in let k = kept at kind us o in
+    let at = (goal.at.move_children-requires-clause-links c).After-fresh_node-right in let k = kept at kind us o in
     second-can h c.fresh_node-right.new.seat.view c.move_links.new.seat.view c.args.row c.fresh_node-right.result kind us xs b k.owns
     (right-owned at kind us o) (apart-one c.args.row c.fresh_node-right.result k.apart) c.move_links.ensures.moved c.move_links.ensures.same.1 (few at)
+
+pub move_children-requires-clause-none : goal.move_children-requires-clause-none
+move_children-requires-clause-none c = λ leaf.
+    let (h, kind, us, xs, o, b) = c.requires.node in
+    let at = (goal.at.move_children-requires-clause-none c).After-fresh_node-right in let k = kept at kind us o in
+    second-none h c.fresh_node-right.new.seat.view c.move_links.new.seat.view c.args.row c.fresh_node-right.result kind us xs b
+    (λ e. leaf (c.kind_of-kind.ensures.kind kind 31 us o ∙ e)) k.owns (right-owned at kind us o)
+    (apart-one c.args.row c.fresh_node-right.result k.apart) c.move_links.ensures.moved
 
 pub swap-middle-requires-clause-link : goal.swap-middle-requires-clause-link
 swap-middle-requires-clause-link c =
     let (h, kind, us, xs, o, b) = c.requires.node in
     let at = (goal.at.swap-middle-requires-clause-link c).After-fresh_node-right in let k = kept at kind us o in
-    middle-can h c.fresh_node-right.new.seat.view c.move_links.new.seat.view c.move_links-2.new.seat.view c.args.row c.fresh_node-right.result kind us xs b
+    middle-can h c.fresh_node-right.new.seat.view c.move_links.new.seat.view c.move_children.new.seat.view c.args.row c.fresh_node-right.result kind us xs b
     k.owns (right-owned at kind us o) (apart-one c.args.row c.fresh_node-right.result k.apart) c.move_links.ensures.moved c.move_links.ensures.same.1
-    c.move_links-2.ensures.moved c.move_links-2.ensures.same.1 (few at)
+    c.move_children.ensures.moved c.move_children.ensures.same.1 (few at)
 
 pub set_count-requires-clause-node : goal.set_count-requires-clause-node
 set_count-requires-clause-node c =
     let (h, kind, us, xs, o, b) = c.requires.node in
     let at = (goal.at.set_count-requires-clause-node c).After-fresh_node-right in let k = kept at kind us o in
-    let z = middle-least h c.fresh_node-right.new.seat.view c.move_links.new.seat.view c.move_links-2.new.seat.view c.swap-middle.new.seat.view c.args.row
+    let z = middle-least h c.fresh_node-right.new.seat.view c.move_links.new.seat.view c.move_children.new.seat.view c.swap-middle.new.seat.view c.args.row
     c.fresh_node-right.result kind c.swap-middle.result us xs b k.owns (right-owned at kind us o)
-    (apart-one c.args.row c.fresh_node-right.result k.apart) c.move_links.ensures.moved c.move_links-2.ensures.moved c.swap-middle.ensures.node
+    (apart-one c.args.row c.fresh_node-right.result k.apart) c.move_links.ensures.moved c.move_children.ensures.moved c.swap-middle.ensures.node
     c.swap-middle.ensures.others in
     (kind, 31, z.1.0, z.1.1)
 
@@ -77,18 +85,18 @@ pub overflow_sub-result : goal.overflow_sub-result
 overflow_sub-result c =
     let (h, kind, us, xs, o, b) = c.requires.node in
     let at = (goal.at.overflow_sub-result c).After-fresh_node-right in let k = kept at kind us o in
-    (middle-least h c.fresh_node-right.new.seat.view c.move_links.new.seat.view c.move_links-2.new.seat.view c.swap-middle.new.seat.view c.args.row
+    (middle-least h c.fresh_node-right.new.seat.view c.move_links.new.seat.view c.move_children.new.seat.view c.swap-middle.new.seat.view c.args.row
     c.fresh_node-right.result kind c.swap-middle.result us xs b k.owns (right-owned at kind us o)
-    (apart-one c.args.row c.fresh_node-right.result k.apart) c.move_links.ensures.moved c.move_links-2.ensures.moved c.swap-middle.ensures.node
+    (apart-one c.args.row c.fresh_node-right.result k.apart) c.move_links.ensures.moved c.move_children.ensures.moved c.swap-middle.ensures.node
     c.swap-middle.ensures.others).0
 
 pub returns-clause-parts : goal.returns-clause-parts
 returns-clause-parts c = λ h kind us xs o b.
     let at = (goal.at.returns-clause-parts c).After-fresh_node-right in let k = kept at kind us o in
-    cut h c.args.seat.now.view c.fresh_node-right.new.seat.view c.move_links.new.seat.view c.move_links-2.new.seat.view c.swap-middle.new.seat.view
+    cut h c.args.seat.now.view c.fresh_node-right.new.seat.view c.move_links.new.seat.view c.move_children.new.seat.view c.swap-middle.new.seat.view
     c.set_count.new.seat.view c.args.row c.fresh_node-right.result kind c.swap-middle.result us xs b k.owns (right-owned at kind us o)
     (apart-one c.args.row c.fresh_node-right.result k.apart) (fresh-refs at) c.move_links.ensures.moved c.move_links.ensures.same.1
-    c.move_links-2.ensures.moved c.move_links-2.ensures.same.1 c.swap-middle.ensures.node c.swap-middle.ensures.others c.set_count.ensures.node
+    c.move_children.ensures.moved c.move_children.ensures.same.1 c.swap-middle.ensures.node c.swap-middle.ensures.others c.set_count.ensures.node
     c.set_count.ensures.others c.set_count.ensures.same.1
 
 pub returns-clause-spends : goal.returns-clause-spends
@@ -96,15 +104,16 @@ returns-clause-spends c = λ rs chain_is.
     let (h, kind, us, xs, o, b) = c.requires.node in
     let at = (goal.at.returns-clause-spends c).After-fresh_node-right in let k = kept at kind us o in
     let apart = apart-one c.args.row c.fresh_node-right.result k.apart in
-    let (skind, m, fs, bs, t, u, R, ob, at_is, low, refs_is, none_is, few_is) = middle-can h c.fresh_node-right.new.seat.view c.move_links.new.seat.view c.move_links-2.new.seat.view
+    let (skind, m, fs, bs, t, u, R, ob, at_is, low, refs_is, none_is, few_is) = middle-can h c.fresh_node-right.new.seat.view c.move_links.new.seat.view
+    c.move_children.new.seat.view
     c.args.row c.fresh_node-right.result kind us xs b k.owns (right-owned at kind us o) apart c.move_links.ensures.moved c.move_links.ensures.same.1
-    c.move_links-2.ensures.moved c.move_links-2.ensures.same.1 (few at) in
-    let z = middle-least h c.fresh_node-right.new.seat.view c.move_links.new.seat.view c.move_links-2.new.seat.view c.swap-middle.new.seat.view c.args.row
+    c.move_children.ensures.moved c.move_children.ensures.same.1 (few at) in
+    let z = middle-least h c.fresh_node-right.new.seat.view c.move_links.new.seat.view c.move_children.new.seat.view c.swap-middle.new.seat.view c.args.row
     c.fresh_node-right.result kind c.swap-middle.result us xs b k.owns (right-owned at kind us o) apart c.move_links.ensures.moved
-    c.move_links-2.ensures.moved c.swap-middle.ensures.node c.swap-middle.ensures.others in
+    c.move_children.ensures.moved c.swap-middle.ensures.node c.swap-middle.ensures.others in
     let same = ap (λ (s : SeatState). s.view) c.kind_of-kind.ensures.same in
-    cut-spends c.args.seat.now.view c.fresh_node-right.new.seat.view c.move_links.new.seat.view c.move_links-2.new.seat.view c.swap-middle.new.seat.view
+    cut-spends c.args.seat.now.view c.fresh_node-right.new.seat.view c.move_links.new.seat.view c.move_children.new.seat.view c.swap-middle.new.seat.view
     c.set_count.new.seat.view c.args.row c.fresh_node-right.result skind kind m 31 (fs ++ t ∷ bs) z.1.0 rs c.args.chain.now c.fresh_node-right.new.chain
     (subst (λ v. Spends 1 [] (c.fresh_node-right.result ∷ []) rs v c.fresh_node-right.new.seat.view c.fresh_node-right.new.chain) same
     (c.fresh_node-right.ensures.spends rs (subst (λ v. IsChain v c.args.chain.now rs) (sym same) chain_is))) c.move_links.ensures.spends
-    c.move_links-2.ensures.spends ob c.swap-middle.ensures.others z.1.1 c.set_count.ensures.others
+    c.move_children.ensures.spends ob c.swap-middle.ensures.others z.1.1 c.set_count.ensures.others

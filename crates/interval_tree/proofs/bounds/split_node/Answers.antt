@@ -17,7 +17,8 @@ chained c = let (rs, h, many) = c.requires.room in let s = c.cut_node-right.ensu
 
 pub set_top-requires-clause-node : goal.set_top-requires-clause-node
 set_top-requires-clause-node c =
-    let (h, kind, xs, p) = parts (goal.at.set_top-requires-clause-node c).After-cut_node-right in (h, kind, 15, p.us, p.ls, p.left_owns, p.left_body, omega arith)
+    let (h, kind, xs, p) = parts (goal.at.set_top-requires-clause-node c).After-cut_node-right in
+    (h, kind, 15, p.us, p.ls, p.left_owns, p.left_body, omega arith)
 
 pub set_top-requires-clause-few : goal.set_top-requires-clause-few
 set_top-requires-clause-few c =

@@ -230,5 +230,6 @@ returns-else-height-eq0-clause-spends t c = λ rs h.
     let s2 = spends-add row k (goes ∷ []) (goes ∷ []) s1.left b d q (c.insert_owned.ensures.spends s1.left s1.chain) in
     let s3 = c.close_child.ensures.spends s2.left q s2.chain in
     spends-more (2 + (k + 0)) (c.args.height * 2) (row ∷ []) (row ∷ []) rs v w q (let a = c.if-height-eq0.false in omega arith)
-    (spends-join 2 (k + 0) (row ∷ []) (row ∷ goes ∷ []) (row ∷ []) rs v b w p q s1 (spends-join k 0 (row ∷ goes ∷ []) (row ∷ goes ∷ []) (row ∷ []) s1.left b d w q q
+    (spends-join 2 (k + 0) (row ∷ []) (row ∷ goes ∷ []) (row ∷ []) rs v b w p q s1 (spends-join k 0 (row ∷ goes ∷ []) (row ∷ goes ∷ [])
+    (row ∷ []) s1.left b d w q q
     s2 s3))

@@ -48,22 +48,51 @@ next-behind : (v : SeatView) (row item low high m other : ℕ) (result : Orderin
     → m < high → LeadsTo v row (1 + m) other → Compares v other item result → is_lt result ≡ true → HasPlace v row item (m + 1) high
 next-behind v row item low high m other result (kind, n, u, its, ds, it, o, few, latches, sorted, up, b) a e leads cmp less =
     let q = middle it its low high m b a e in
-    let r = cmp (item_of q.y) (item_of it) (item-at v q.y other (middle-reached v row low high m other kind n u its ds it q o latches leads)) (item-at v it item up) in
-    (kind, n, u, its, ds, it, o, few, latches, sorted, up, behind-middle it its low high m q sorted (is-less (item_cmp (item_of q.y) (item_of it)) (ap is_lt (sym r) ∙ less)))
+    let r = cmp (item_of q.y) (item_of it) (item-at v q.y other (middle-reached v row low high m other kind n u its ds it q o latches leads))
+    (item-at v it item up) in (
+      kind,
+      n,
+      u,
+      its,
+      ds,
+      it,
+      o,
+      few,
+      latches,
+      sorted,
+      up,
+      behind-middle it its low high m q sorted
+          (is-less (item_cmp (item_of q.y) (item_of it)) (ap is_lt (sym r) ∙ less)),
+    )
 
 next-ahead : (v : SeatView) (row item low high m other : ℕ) (result : Ordering) → HasPlace v row item low high → low ≤ m
     → m < high → LeadsTo v row (1 + m) other → Compares v other item result → is_lt result ≡ false → HasPlace v row item low m
 next-ahead v row item low high m other result (kind, n, u, its, ds, it, o, few, latches, sorted, up, b) a e leads cmp more =
     let q = middle it its low high m b a e in
-    let r = cmp (item_of q.y) (item_of it) (item-at v q.y other (middle-reached v row low high m other kind n u its ds it q o latches leads)) (item-at v it item up) in
-    (kind, n, u, its, ds, it, o, few, latches, sorted, up, ahead-middle it its low high m q (not-less (item_cmp (item_of q.y) (item_of it)) (ap is_lt (sym r) ∙ more)))
+    let r = cmp (item_of q.y) (item_of it) (item-at v q.y other (middle-reached v row low high m other kind n u its ds it q o latches leads))
+    (item-at v it item up) in (
+      kind,
+      n,
+      u,
+      its,
+      ds,
+      it,
+      o,
+      few,
+      latches,
+      sorted,
+      up,
+      ahead-middle it its low high m q (not-less (item_cmp (item_of q.y) (item_of it)) (ap is_lt (sym r)
+          ∙ more)),
+    )
 
 finds-behind : (v : SeatView) (row item low high m other found : ℕ) (result : Ordering) → low ≤ m → m < high
     → LeadsTo v row (1 + m) other → Compares v other item result → is_lt result ≡ true → FindsPlace v row item (m + 1) high found
     → FindsPlace v row item low high found
 finds-behind v row item low high m other found result a e leads cmp less f kind n u its ds it o few latches sorted up b =
     let q = middle it its low high m b a e in
-    let r = cmp (item_of q.y) (item_of it) (item-at v q.y other (middle-reached v row low high m other kind n u its ds it q o latches leads)) (item-at v it item up) in
+    let r = cmp (item_of q.y) (item_of it) (item-at v q.y other (middle-reached v row low high m other kind n u its ds it q o latches leads))
+    (item-at v it item up) in
     f kind n u its ds it o few latches sorted up
     (behind-middle it its low high m q sorted (is-less (item_cmp (item_of q.y) (item_of it)) (ap is_lt (sym r) ∙ less)))
 
@@ -72,7 +101,8 @@ finds-ahead : (v : SeatView) (row item low high m other found : ℕ) (result : O
     → FindsPlace v row item low high found
 finds-ahead v row item low high m other found result a e leads cmp more f kind n u its ds it o few latches sorted up b =
     let q = middle it its low high m b a e in
-    let r = cmp (item_of q.y) (item_of it) (item-at v q.y other (middle-reached v row low high m other kind n u its ds it q o latches leads)) (item-at v it item up) in
+    let r = cmp (item_of q.y) (item_of it) (item-at v q.y other (middle-reached v row low high m other kind n u its ds it q o latches leads))
+    (item-at v it item up) in
     f kind n u its ds it o few latches sorted up
     (ahead-middle it its low high m q (not-less (item_cmp (item_of q.y) (item_of it)) (ap is_lt (sym r) ∙ more)))
 

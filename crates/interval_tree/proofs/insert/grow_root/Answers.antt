@@ -14,7 +14,8 @@ use Rattle.interval_tree.proofs.Greatest.{node-top}
 use Rattle.interval_tree.proofs.Linking.{kid-row-of, shallow}
 use Rattle.interval_tree.proofs.Parting.{two-apart, half-kept, new-root}
 use Rattle.interval_tree.proofs.insert.grow_root.Goals as goal
-use Rattle.interval_tree.proofs.insert.grow_root.Goals.{After-fresh_node-over, After-move_links, After-split_node-right, After-swap, After-link_node, After-link_node-2}
+use Rattle.interval_tree.proofs.insert.grow_root.Goals.{After-fresh_node-over, After-move_links, After-split_node-right, After-swap, After-link_node}
+use Rattle.interval_tree.proofs.insert.grow_root.Goals.{After-link_node-2}
 
 -- the full root, and the row that is to be the new one: f after the fresh row, a after the first link has moved
 pub record Begun (h : ℕ) (f a : SeatView) (row over kind : ℕ) (xs : List Tree) : Type 0 where
@@ -118,7 +119,8 @@ parted : (c : After-split_node-right) → (h kind : ℕ) (xs : List Tree)
     → Begun h c.fresh_node-over.new.seat.view c.move_links.new.seat.view c.args.row c.fresh_node-over.result kind xs
     → ((rs : List ℕ) → IsChain c.args.seat.now.view c.args.chain.now rs
     → Spends 1 (c.args.row ∷ []) (c.args.row ∷ c.fresh_node-over.result ∷ []) rs c.args.seat.now.view c.move_links.new.seat.view c.fresh_node-over.new.chain)
-    → (top : Tree) × Parted h c.split_node-right.new.seat.view c.args.row c.fresh_node-over.result c.split_node-right.result.0 c.split_node-right.result.1 kind top
+    → (top : Tree) × Parted h c.split_node-right.new.seat.view c.args.row c.fresh_node-over.result c.split_node-right.result.0 c.split_node-right.result.1 kind
+    top
     xs c.args.seat.now.view.refs c.split_node-right.new.chain
 parted c h kind xs b moved =
     let row = c.args.row in let over = c.fresh_node-over.result in let right = c.split_node-right.result.0 in
@@ -126,7 +128,8 @@ parted c h kind xs b moved =
     let (rs, g, many) = c.requires.room in
     let t = moved rs g in
     let e = c.split_node-right.ensures.spends t.left t.chain in
-    let k = owns-kept 1 (row ∷ []) (row ∷ right ∷ []) t.left a s c.fresh_node-over.new.chain c.split_node-right.new.chain over 3 1 (b.top ∷ replicate 63 nil) t.chain
+    let k = owns-kept 1 (row ∷ []) (row ∷ right ∷ []) t.left a s c.fresh_node-over.new.chain c.split_node-right.new.chain over 3 1 (b.top ∷ replicate 63 nil)
+    t.chain
     e b.new (away-one over row (λ z. b.apart (sym z))) in
     let ne = two-apart over row right k.apart in (
       b.top,
@@ -223,7 +226,8 @@ pub record Halfway (h : ℕ) (d : SeatView) (over right kind : ℕ) (top m : Tre
 halfway : (c : After-link_node) → (h kind : ℕ) (xs : List Tree) (top : Tree)
     → (p : Parted h c.split_node-right.new.seat.view c.args.row c.fresh_node-over.result c.split_node-right.result.0 c.split_node-right.result.1 kind top xs
     c.args.seat.now.view.refs c.split_node-right.new.chain)
-    → (q : Middled h c.swap.new.seat.view c.args.row c.fresh_node-over.result c.split_node-right.result.0 kind top p.halves.m p.halves.us p.halves.vs p.halves.ls
+    → (q : Middled h c.swap.new.seat.view c.args.row c.fresh_node-over.result c.split_node-right.result.0 kind top p.halves.m p.halves.us p.halves.vs
+    p.halves.ls
     p.halves.rs c.args.seat.now.view.refs c.split_node-right.new.chain)
     → Halfway h c.link_node.new.seat.view c.fresh_node-over.result c.split_node-right.result.0 kind top p.halves.m p.halves.us p.halves.vs p.halves.ls
     c.args.seat.now.view.refs

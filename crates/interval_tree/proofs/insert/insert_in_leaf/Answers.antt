@@ -51,7 +51,8 @@ place-i-requires-clause-node c =
     )
 
 planned : (c : After-place-i) → (kind n : ℕ) (us xs : List Tree) (it : Tree) (rest : List Tree)
-    → Ready 0 c.args.seat.now.view c.args.row c.args.item kind n us xs it rest → LeafPlan c.raise_top.new.seat.view c.args.row c.place-i.result kind n xs it rest
+    → Ready 0 c.args.seat.now.view c.args.row c.args.item kind n us xs it rest → LeafPlan c.raise_top.new.seat.view c.args.row c.place-i.result kind n xs it
+    rest
 planned c kind n us xs it rest r = leaf-plan c.args.seat.now.view c.raise_top.new.seat.view c.args.row c.args.item c.place-i.result kind n us xs it rest r
     c.raise_top.ensures.node c.raise_top.ensures.same.1 c.place-i.ensures.place
 

@@ -16,7 +16,8 @@ swap-requires-clause-link c =
 
 pub returns-clause-linked : goal.returns-clause-linked
 returns-clause-linked c = λ kind n us vs sort m ws o at oc apart.
-    linked-node c.args.seat.now.view c.publish_node.new.seat.view c.swap.new.seat.view c.args.row c.args.k c.args.child kind n sort m c.swap.result us vs ws o at
+    linked-node c.args.seat.now.view c.publish_node.new.seat.view c.swap.new.seat.view c.args.row c.args.k c.args.child kind n sort m c.swap.result us vs ws o
+    at
     apart (c.publish_node.ensures.node sort m ws oc) c.swap.ensures.node
 
 pub returns-clause-spends : goal.returns-clause-spends

@@ -120,7 +120,8 @@ own_node-child-requires-clause-node c =
     let (h, kind, n, us, xs, it, rest, r) = c.requires.ready in
     let t = taken (goal.at.own_node-child-requires-clause-node c).After-swap-child h kind n us xs it rest r in
     let child = c.swap-child.result - 1 in
-    let is : tree_of child c.swap-child.new.seat.view.refs ≡ t.plan.out.child = ap (tree_of child) t.refs ∙ tree_of-first child t.plan.out.child (it ∷ rest) t.here in
+    let is : tree_of child c.swap-child.new.seat.view.refs ≡ t.plan.out.child = ap (tree_of child) t.refs
+    ∙ tree_of-first child t.plan.out.child (it ∷ rest) t.here in
     (h, t.plan.out.ys, ap tree_word is ∙ t.here, subst (λ u. Stands h u t.plan.out.ys) (sym is) t.plan.out.kid.node)
 
 pub own_node-child-requires-clause-few : goal.own_node-child-requires-clause-few

@@ -12,7 +12,8 @@ use Rattle.interval_tree.proofs.Frames.{owns-kept, owns-others, away-one, spends
 use Rattle.interval_tree.proofs.Greatest.{is-less, not-less, item-at, has-item}
 use Rattle.interval_tree.proofs.Leading.{up-first}
 use Rattle.interval_tree.proofs.Linking.{goes-right, goes-left}
-use Rattle.interval_tree.proofs.Parting.{count-full, child-body, second-ref, two-apart, left-can, left-linked, right-can, right-linked, right-spends, left-spends, half-kept}
+use Rattle.interval_tree.proofs.Parting.{count-full, child-body, second-ref, two-apart, left-can, left-linked, right-can, right-linked, right-spends}
+use Rattle.interval_tree.proofs.Parting.{left-spends, half-kept}
 use Rattle.interval_tree.proofs.insert.room_below.Goals as goal
 use Rattle.interval_tree.proofs.insert.room_below.Goals.{After-count_of-count, After-split_node-right, After-item_cmp, After-make_room}
 
@@ -44,7 +45,8 @@ split_node-right-requires-clause-room c =
     subst (λ (s : SeatState). HasRoom 1 s.view c.args.chain.now) (sym c.count_of-count.ensures.same) c.requires.room
 
 -- what stands after the split
-pub record AfterSplit (h : ℕ) (s : SeatView) (row kind n : ℕ) (top : Tree) (child right middle sort : ℕ) (us ys : List Tree) (it : Tree) (rest : List Tree) : Type 0 where
+pub record AfterSplit (h : ℕ) (s : SeatView) (row kind n : ℕ) (top : Tree) (child right middle sort : ℕ) (us ys : List Tree) (it : Tree)
+    (rest : List Tree) : Type 0 where
   pub halves : Halves h s child right middle sort ys (it ∷ rest)
   pub owns : OwnsNode s row kind n (top ∷ us)
   pub child_apart : child ≢ row
@@ -86,7 +88,8 @@ pub item_cmp-requires-clause-one : goal.item_cmp-requires-clause-one
 item_cmp-requires-clause-one c =
     let (h, kind, n, top, xs, it, rest, low, few, o) = c.requires.opened in
     let z = (split (goal.at.item_cmp-requires-clause-one c).After-split_node-right c.if-count-lt31.false h kind n top xs it rest o).halves in
-    has-item c.split_node-right.new.seat.view z.m c.split_node-right.result.1 (up-first c.split_node-right.new.seat.view z.m (it ∷ rest) z.refs, z.here, z.latch)
+    has-item c.split_node-right.new.seat.view z.m c.split_node-right.result.1
+    (up-first c.split_node-right.new.seat.view z.m (it ∷ rest) z.refs, z.here, z.latch)
 
 pub item_cmp-requires-clause-other : goal.item_cmp-requires-clause-other
 item_cmp-requires-clause-other c =
@@ -166,7 +169,8 @@ link_node-requires-else-goes_right-clause-link c =
     let (h, kind, n, top, xs, it, rest, low, few, o) = c.requires.opened in
     let z = split (goal.at.link_node-requires-else-goes_right-clause-link c).After-split_node-right c.if-count-lt31.false h kind n top xs it rest o in
     let y = roomy (goal.at.link_node-requires-else-goes_right-clause-link c).After-make_room c.if-count-lt31.false h kind n top xs it rest few o z in
-    right-can h c.split_node-right.new.seat.view c.make_room.new.seat.view c.args.row kind n top z.halves.m c.args.i c.split_node-right.result.0 o.sort o.us o.ps
+    right-can h c.split_node-right.new.seat.view c.make_room.new.seat.view c.args.row kind n top z.halves.m c.args.i c.split_node-right.result.0 o.sort o.us
+    o.ps
     o.qs z.halves.rs z.halves.vs (it ∷ rest) o.hole low few y.owns z.halves.right_owns z.halves.right_node y.others z.right_apart y.refs
     (few-refs rest it o.few)
 
@@ -225,7 +229,8 @@ returns-then-goes_right-clause-opened c = λ h kind n top xs it rest low few o.
     let before = is-less (item_cmp (item_of g.m) (item_of it))
     (ap is_lt (sym (compared (goal.at.returns-then-goes_right-clause-opened c).After-item_cmp c.if-count-lt31.false h kind n top xs it rest o g))
     ∙ sym c.is_lt-goes_right.ensures ∙ c.if-goes_right.true) in
-    let (p, low_count) = goes-right h c.args.seat.now.view w row kind n top c.args.child c.args.i c.args.item xs it rest o right c.split_node-right.result.1 s g us
+    let (p, low_count) = goes-right h c.args.seat.now.view w row kind n top c.args.child c.args.i c.args.item xs it rest o right c.split_node-right.result.1 s g
+    us
     before owns hole z.right_apart half (refs ∙ y.refs) in
     (n + 1, omega arith, omega arith, p, low_count)
 
@@ -243,17 +248,20 @@ returns-else-goes_right-clause-opened c = λ h kind n top xs it rest low few o.
     let at = (goal.at.returns-else-goes_right-clause-opened c).After-make_room in
     let z = split (goal.at.returns-else-goes_right-clause-opened c).After-split_node-right c.if-count-lt31.false h kind n top xs it rest o in
     let y = roomy at c.if-count-lt31.false h kind n top xs it rest few o z in
-    let s = c.split_node-right.new.seat.view in let r = c.make_room.new.seat.view in let w = c.link_node-else-goes_right.new.seat.view in let row = c.args.row in
+    let s = c.split_node-right.new.seat.view in let r = c.make_room.new.seat.view in let w = c.link_node-else-goes_right.new.seat.view in
+    let row = c.args.row in
     let right = c.split_node-right.result.0 in let g = z.halves in
     let (us, owns, hole, refs) = right-linked h s r w row kind n top g.m c.args.i right o.sort o.us o.ps o.qs g.rs g.vs o.hole few g.latch y.owns
     g.right_owns g.right_node y.others z.right_apart c.link_node-else-goes_right.ensures.linked in
     let (rs, chain_is) = chain-roomy at c.if-count-lt31.false in
-    let half = half-kept r w row right c.args.child 15 o.sort g.us rs c.split_node-right.new.chain chain_is c.link_node-else-goes_right.ensures.spends z.child_apart
+    let half = half-kept r w row right c.args.child 15 o.sort g.us rs c.split_node-right.new.chain chain_is c.link_node-else-goes_right.ensures.spends
+    z.child_apart
     g.apart (owns-others row s r c.args.child o.sort 15 g.us y.others z.child_apart g.left_owns) in
     let behind = not-less (item_cmp (item_of g.m) (item_of it))
     (ap is_lt (sym (compared (goal.at.returns-else-goes_right-clause-opened c).After-item_cmp c.if-count-lt31.false h kind n top xs it rest o g))
     ∙ sym c.is_lt-goes_right.ensures ∙ c.if-goes_right.false) in
-    let (p, low_count) = goes-left h c.args.seat.now.view w row kind n top c.args.child c.args.i c.args.item xs it rest o right c.split_node-right.result.1 s g us
+    let (p, low_count) = goes-left h c.args.seat.now.view w row kind n top c.args.child c.args.i c.args.item xs it rest o right c.split_node-right.result.1 s g
+    us
     behind owns hole half (refs ∙ y.refs) in
     (n + 1, omega arith, omega arith, p, low_count)
 
@@ -262,6 +270,7 @@ returns-else-goes_right-clause-spends c = λ rs h.
     let (l, kind, n, top, xs, it, rest, low, few, o) = c.requires.opened in
     let z = split (goal.at.returns-else-goes_right-clause-spends c).After-split_node-right c.if-count-lt31.false l kind n top xs it rest o in
     let y = roomy (goal.at.returns-else-goes_right-clause-spends c).After-make_room c.if-count-lt31.false l kind n top xs it rest few o z in
-    left-spends c.args.seat.now.view c.split_node-right.new.seat.view c.make_room.new.seat.view c.link_node-else-goes_right.new.seat.view c.args.row c.args.child
+    left-spends c.args.seat.now.view c.split_node-right.new.seat.view c.make_room.new.seat.view c.link_node-else-goes_right.new.seat.view c.args.row
+    c.args.child
     c.split_node-right.result.0 kind n (top ∷ o.us) rs c.split_node-right.new.chain
     (chained (goal.at.returns-else-goes_right-clause-spends c).After-split_node-right rs h) z.owns y.others c.link_node-else-goes_right.ensures.spends

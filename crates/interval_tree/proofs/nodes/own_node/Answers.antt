@@ -133,11 +133,16 @@ copied c shared =
     let z = owned-copy v f l c.drop_ref.new.seat.view row copy c.read-kind.result c.read-n.result (children t) c.args.chain.now c.fresh_node-copy.new.chain
     c.drop_ref.new.chain refs spends c.fresh_node-copy.ensures.node c.copy_node.ensures.others c.copy_node.ensures.same.1 o c.drop_ref.ensures.refs
     c.drop_ref.ensures.chain in
-    record { node = subst (λ (k : ℕ × ℕ). OwnsNode c.drop_ref.new.seat.view copy k.0 k.1 (children t)) (λ i. (kind i, count i)) z.0; refs = z.1.0; spends = z.1.1 }
+    record {
+      node = subst (λ (k : ℕ × ℕ). OwnsNode c.drop_ref.new.seat.view copy k.0 k.1 (children t)) (λ i. (kind i, count i)) z.0;
+      refs = z.1.0;
+      spends = z.1.1;
+    }
   where
     kind : c.read-kind.result ≡ word (tree_of c.args.row c.args.seat.now.view.refs) 1
     kind = let (h, xs, ref, node) = c.requires.node in
-        said c.args.seat.now.view c.own_if_single.new.seat.view c.args.row 1 c.read-kind.result (c.own_if_single.ensures.shared shared) ref c.read-kind.ensures.tree
+        said c.args.seat.now.view c.own_if_single.new.seat.view c.args.row 1 c.read-kind.result (c.own_if_single.ensures.shared shared) ref
+        c.read-kind.ensures.tree
 
     count : c.read-n.result ≡ word (tree_of c.args.row c.args.seat.now.view.refs) 2
     count = let (h, xs, ref, node) = c.requires.node in

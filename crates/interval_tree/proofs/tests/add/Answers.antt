@@ -9,20 +9,29 @@ use Rattle.latch_item.specs.Items.{Item}
 use Rattle.row_pool.specs.declared.chain.Chain.{Chain}
 use Rattle.interval_tree.specs.declared.tree.Tree.{Tree}
 use Rattle.interval_tree.specs.TestTrees.{Growing}
+use Rattle.interval_tree.specs.Trees.{other_refs}
 use Rattle.interval_tree.proofs.TestGrowing.{first-row, Written, item-written, refs-few, growing-more, added}
+use Rattle.interval_tree.proofs.TestShots.{shots-added}
 use Rattle.interval_tree.proofs.tests.add.Goals as goal
 use Rattle.interval_tree.proofs.tests.add.Goals.{After-pop-row, After-write_item}
 
 pub returns-then-free-lt8 : goal.returns-then-free-lt8
-returns-then-free-lt8 c = record { growing = λ roots g few. growing-more c.args.rows.now c.args.seat.now c.args.chain.now c.args.tree.now c.args.id roots g }
+returns-then-free-lt8 c = record {
+  growing = λ roots g few. growing-more c.args.rows.now c.args.seat.now c.args.chain.now c.args.tree.now c.args.id roots g;
+  others = λ roots g few root m. refl;
+}
 
 pub returns-then-many-ge8190 : goal.returns-then-many-ge8190
-returns-then-many-ge8190 c = record { growing = λ roots g few. growing-more c.args.rows.now c.args.seat.now c.args.chain.now c.args.tree.now c.args.id roots g }
+returns-then-many-ge8190 c = record {
+  growing = λ roots g few. growing-more c.args.rows.now c.args.seat.now c.args.chain.now c.args.tree.now c.args.id roots g;
+  others = λ roots g few root m. refl;
+}
 
 pub pop-row-requires-clause-chain : goal.pop-row-requires-clause-chain
 pop-row-requires-clause-chain c =
     let (roots, g, few) = c.requires.growing in
-    let (r, rs, e, room) = first-row c.args.chain.now c.args.seat.now.view g.rows c.len-free.result g.chain (c.len-free.ensures c.args.seat.now.view g.rows g.chain)
+    let (r, rs, e, room) = first-row c.args.chain.now c.args.seat.now.view g.rows c.len-free.result g.chain
+    (c.len-free.ensures c.args.seat.now.view g.rows g.chain)
     (let a = c.if-free-lt8.false in omega arith) in
     (r, rs, subst (IsChain c.args.seat.now.view c.args.chain.now) e g.chain)
 
@@ -79,7 +88,8 @@ returns c = record {
   growing = λ roots g few.
       let w = wrote (goal.at.returns c).After-write_item (let a = c.if-free-lt8.false in omega arith) roots g in
       let k = c.len-many.ensures c.args.seat.now.view g.items g.keeps in
-      let (it, ys, here, is, more, keeps) = c.insert.ensures.tree g.items w.item w.written.keeps w.written.new (let a = c.if-many-ge8190.false in omega arith) in
+      let (it, ys, here, is, more, keeps) = c.insert.ensures.tree g.items w.item w.written.keeps w.written.new (let a = c.if-many-ge8190.false in
+      omega arith) in
       let same = ap (λ (z : SeatState). z.view) c.pop-row.ensures.same in
       added c.args.rows.now c.args.seat.now c.insert.new.seat c.write_item.new.seat.view c.args.tree.now c.insert.new.self c.pop-row.new.self c.insert.new.chain
       c.pop-row.result c.args.id w.item g.items ys it w.rs roots
@@ -87,4 +97,8 @@ returns c = record {
       g.no_more (c.write_item.ensures.only.same_seat.number ∙ ap (λ (z : SeatView). z.number) same)
       (c.write_item.ensures.only.same_seat.out ∙ ap (λ (z : SeatView). z.out) same) w.written w.id is more keeps c.insert.ensures.references
       (c.insert.ensures.spends w.rs w.written.chain);
+  others = λ roots g few.
+      let w = wrote (goal.at.returns c).After-write_item (let a = c.if-free-lt8.false in omega arith) roots g in
+      shots-added c.args.seat.now.view c.insert.new.seat.view c.args.tree.now c.insert.new.self roots g.shots
+      (c.insert.ensures.references ∙ ap (other_refs c.args.tree.now) w.written.refs) c.known.ensures c.known-2.ensures;
 }

@@ -22,7 +22,8 @@ own_node-node-requires-clause-few c = let (xs, it, rest, p) = c.requires.tree in
 pub own_node-node-requires-clause-room : goal.own_node-node-requires-clause-room
 own_node-node-requires-clause-room c = room-less 1 7 c.args.seat.now.view c.args.chain.now (omega arith) c.requires.room
 
-owned : (c : After-own_node-node) → (xs : List Tree) (it : Tree) (rest : List Tree) → Coming c.args.level c.args.seat.now.view c.args.root c.args.item xs it rest
+owned : (c : After-own_node-node) → (xs : List Tree) (it : Tree) (rest : List Tree)
+    → Coming c.args.level c.args.seat.now.view c.args.root c.args.item xs it rest
     → RootNode c.args.level c.own_node-node.new.seat.view c.own_node-node.result xs
 owned c xs it rest p = owned-root c.args.level c.args.seat.now.view c.own_node-node.new.seat.view c.args.root c.args.item c.own_node-node.result xs it rest p
     c.own_node-node.ensures.node
@@ -48,7 +49,8 @@ pub record Rooted (level : ℕ) (b : SeatView) (top item : ℕ) (xs : List Tree)
   pub root : RootNode level b top xs
   pub ready : Ready level b top item root.kind root.many root.us xs it rest
 
-rooted : (c : After-roomy_root-top) → (xs : List Tree) (it : Tree) (rest : List Tree) → Coming c.args.level c.args.seat.now.view c.args.root c.args.item xs it rest
+rooted : (c : After-roomy_root-top) → (xs : List Tree) (it : Tree) (rest : List Tree)
+    → Coming c.args.level c.args.seat.now.view c.args.root c.args.item xs it rest
     → Rooted c.roomy_root-top.result.1 c.roomy_root-top.new.seat.view c.roomy_root-top.result.0 c.args.item xs it (without_tree c.args.root rest)
 rooted c xs it rest p =
     let (root, low) = c.roomy_root-top.ensures.node xs (owned-root c.args.level c.args.seat.now.view c.own_node-node.new.seat.view c.args.root c.args.item
@@ -80,7 +82,8 @@ insert_owned-requires-clause-room c =
 
 grown : (c : After-insert_owned) → (xs : List Tree) (it : Tree) (rest : List Tree)
     → Rooted c.roomy_root-top.result.1 c.roomy_root-top.new.seat.view c.roomy_root-top.result.0 c.args.item xs it (without_tree c.args.root rest)
-    → (kind n : ℕ) × (1 ≤ n) × Grown c.roomy_root-top.result.1 c.insert_owned.new.seat.view c.roomy_root-top.result.0 kind n xs it (without_tree c.args.root rest)
+    → (kind n : ℕ) × (1 ≤ n) × Grown c.roomy_root-top.result.1 c.insert_owned.new.seat.view c.roomy_root-top.result.0 kind n xs it
+    (without_tree c.args.root rest)
 grown c xs it rest r = (
   r.root.kind,
   r.root.many,

@@ -57,7 +57,8 @@ returns-then-count-lt31-clause-low c = let (xs, r, low, few) = c.requires.node i
 
 pub returns-then-count-lt31-clause-spends : goal.returns-then-count-lt31-clause-spends
 returns-then-count-lt31-clause-spends c = λ rs h.
-    subst (λ (s : SeatState). Spends 2 (c.args.node ∷ []) (c.args.node ∷ []) rs c.args.seat.now.view s.view c.args.chain.now) (sym c.count_of-count.ensures.same)
+    subst (λ (s : SeatState). Spends 2 (c.args.node ∷ []) (c.args.node ∷ []) rs c.args.seat.now.view s.view c.args.chain.now)
+    (sym c.count_of-count.ensures.same)
     (spends-more 0 2 (c.args.node ∷ []) (c.args.node ∷ []) rs c.args.seat.now.view c.args.seat.now.view c.args.chain.now (omega arith)
     (spends-self (c.args.node ∷ []) rs c.args.seat.now.view c.args.chain.now h))
 
