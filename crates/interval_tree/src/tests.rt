@@ -197,6 +197,19 @@ fn is_in_order(
     list.len() == came.len()
 }
 
+/// Whether the rows came in ascending order out of a pool that was new. A row that is copied goes in front of the chain and comes again, so then nothing was
+/// copied.
+fn is_nothing_copied(came: &[u32]) -> bool {
+    let mut next = 0;
+    for row in came {
+        if *row < next {
+            return false;
+        }
+        next = *row;
+    }
+    true
+}
+
 /// Ends the pool: the tree's rows go back into the chain.
 fn finish(rows: Rows, mut seat: RowSeat, mut chain: Chain, tree: Tree)
     requires growing { (n : ℕ) × Growing rows seat chain tree n [] }
@@ -228,7 +241,7 @@ fn new_pool(alloc: Global, tree: &Tree) -> Result<(Rows, RowSeat, Chain), Memory
     Ok((rows, seat, chain))
 }
 
-/// The heights of a tree of 31, of 32 and of n items, and whether its list is in order.
+/// The heights of a tree of 31, of 32 and of n items, its length, and whether its list is in order and nothing was copied.
 fn heights(alloc: Global, order: Order, n: u32) -> Result<(u32, u32, u32, u32, bool), Memory>
     requires { 32 ≤ n }
 {
@@ -250,11 +263,17 @@ fn heights(alloc: Global, order: Order, n: u32) -> Result<(u32, u32, u32, u32, b
     let len = tree.len();
     let listed = is_in_order(alloc, &rows, &mut seat, &tree, order, came.as_slice());
     finish(rows, seat, chain, tree);
-    Ok((first, second, third, len, listed))
+    Ok((
+        first,
+        second,
+        third,
+        len,
+        listed && is_nothing_copied(came.as_slice()),
+    ))
 }
 
 #[test]
-fn lists_stay_in_order_as_trees_grow(rt: HostRuntime) -> Result<(), Fail> {
+fn lists_stay_in_order_as_unshared_trees_grow_in_place(rt: HostRuntime) -> Result<(), Fail> {
     let seen = heights(rt.alloc(), Order::Ascending, 1000)?;
     assert_eq!(rt; seen, (1, 2, 3, 1000, true));
     let seen = heights(rt.alloc(), Order::Descending, 1000)?;
