@@ -1,21 +1,21 @@
-mod Lists
-mod Weaves
-mod Holes
-mod Cutting
-mod Depths
-mod Frames
-mod Rows
-mod Fresh
-mod Copying
-mod Moving
+pub mod Lists
+pub mod Weaves
+pub mod Holes
+pub mod Cutting
+pub mod Depths
+pub mod Frames
+pub mod Rows
+pub mod Fresh
+pub mod Copying
+pub mod Moving
 mod Shifting
-mod Greatest
-mod Topping
+pub mod Greatest
+pub mod Topping
 mod Splitting
-mod Leading
-mod Linking
-mod Parting
-mod Growing
+pub mod Leading
+pub mod Linking
+pub mod Parting
+pub mod Growing
 mod InOrder
 mod TestGrowing
 mod TestShots

@@ -109,7 +109,7 @@ fn replace_top(rows: &Rows, seat: &mut RowSeat, row: u32, item: u32, chain: &mut
 }
 
 /// The first link of an owned node is set to the item of the greatest bound.
-pub(crate) fn set_top(rows: &Rows, seat: &mut RowSeat, row: u32, chain: &mut Chain)
+pub fn set_top(rows: &Rows, seat: &mut RowSeat, row: u32, chain: &mut Chain)
     requires table { seat.old.table ≡ rows.now }
     requires node { (h kind n : ℕ) × (us xs : List Tree) × OwnsNode seat.old.view row kind n us × Body h kind n us xs × (1 ≤ n) }
     requires few { length seat.old.view.refs + 1 < 2 ^ 32 }
@@ -124,7 +124,7 @@ pub(crate) fn set_top(rows: &Rows, seat: &mut RowSeat, row: u32, chain: &mut Cha
 }
 
 /// The item becomes the one of the greatest bound of an owned node, where its bound is greater.
-pub(crate) fn raise_top(rows: &Rows, seat: &mut RowSeat, row: u32, item: u32, chain: &mut Chain)
+pub fn raise_top(rows: &Rows, seat: &mut RowSeat, row: u32, item: u32, chain: &mut Chain)
     requires table { seat.old.table ≡ rows.now }
     requires node { (kind n : ℕ) × (top : Tree) × (us : List Tree) × (it : Tree) × OwnsNode seat.old.view row kind n (top ∷ us) × IsLatch top
         × ReachesItem seat.old.view it item }

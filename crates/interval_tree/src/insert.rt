@@ -38,7 +38,7 @@ fn place_between(rows: &Rows, seat: &mut RowSeat, row: u32, item: u32, low: u32,
 }
 
 /// How many items of an owned node are before the item.
-fn place(rows: &Rows, seat: &mut RowSeat, row: u32, item: u32) -> u32
+pub fn place(rows: &Rows, seat: &mut RowSeat, row: u32, item: u32) -> u32
     requires table { seat.old.table ≡ rows.now }
     requires node { (kind n : ℕ) × (u : Tree) × (its ds : List Tree) × (it : Tree) × OwnsNode seat.old.view row kind n (u ∷ (its ++ ds)) × (length its ≡ n)
         × (n ≤ 31) × Each IsLatch its × Sorted its × ReachesItem seat.old.view it item }
@@ -87,7 +87,7 @@ fn open_child(rows: &Rows, seat: &mut RowSeat, row: u32, item: u32, chain: &mut 
 }
 
 /// An owned node goes live, and the empty link k of another leads to it.
-fn link_node(rows: &Rows, seat: &mut RowSeat, row: u32, k: u32, child: u32)
+pub fn link_node(rows: &Rows, seat: &mut RowSeat, row: u32, k: u32, child: u32)
     requires table { seat.old.table ≡ rows.now }
     requires link { CanLink seat.old.view row k child }
     ensures table { seat.new.table ≡ seat.old.table }

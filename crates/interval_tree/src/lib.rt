@@ -20,5 +20,6 @@ mod nodes;
 #[cfg(test)]
 mod tests;
 mod tree;
+pub mod workshop;
 
 pub use tree::Tree;

@@ -21,7 +21,7 @@ const COUNT: u32 = 2;
 const LINKS: u32 = 3;
 
 /// The link k of an owned node takes `goal`, the seat's newest reference or nothing. What it held before becomes the newest reference.
-pub(crate) fn swap(rows: &Rows, seat: &mut RowSeat, row: u32, k: u32, goal: u64) -> u64
+pub fn swap(rows: &Rows, seat: &mut RowSeat, row: u32, k: u32, goal: u64) -> u64
     requires table { seat.old.table ≡ rows.now }
     requires link { CanSwap seat.old.view row k goal }
     ensures table { seat.new.table ≡ seat.old.table }
@@ -33,7 +33,7 @@ pub(crate) fn swap(rows: &Rows, seat: &mut RowSeat, row: u32, k: u32, goal: u64)
 }
 
 /// The links from k on, up to the first empty one, move by one place, and `goal` comes in front of them.
-pub(crate) fn insert_link(rows: &Rows, seat: &mut RowSeat, row: u32, k: u32, goal: u64)
+pub fn insert_link(rows: &Rows, seat: &mut RowSeat, row: u32, k: u32, goal: u64)
     requires table { seat.old.table ≡ rows.now }
     requires link { CanInsert seat.old.view row k goal }
     ensures table { seat.new.table ≡ seat.old.table }
@@ -47,7 +47,7 @@ pub(crate) fn insert_link(rows: &Rows, seat: &mut RowSeat, row: u32, k: u32, goa
 }
 
 /// The row to which the link k of an owned node leads.
-pub(crate) fn row_at(rows: &Rows, seat: &mut RowSeat, row: u32, k: u32) -> u32
+pub fn row_at(rows: &Rows, seat: &mut RowSeat, row: u32, k: u32) -> u32
     requires table { seat.old.table ≡ rows.now }
     requires link { (kind n : ℕ) × (us vs : List Tree) × (u : Tree) × OwnsNode seat.old.view row kind n (us ++ u ∷ vs) × (length us ≡ k) × (k < 64)
         × (0 < tree_word u) }
@@ -61,7 +61,7 @@ pub(crate) fn row_at(rows: &Rows, seat: &mut RowSeat, row: u32, k: u32) -> u32
 }
 
 /// The item of the greatest bound of a child.
-pub(crate) fn top_of(rows: &Rows, seat: &mut RowSeat, child: u32) -> u32
+pub fn top_of(rows: &Rows, seat: &mut RowSeat, child: u32) -> u32
     requires table { seat.old.table ≡ rows.now }
     requires child { (h : ℕ) × (c : Tree) × (ys : List Tree) × Reaches seat.old.view c × (tree_word c ≡ suc child) × LevelKid h c ys }
     ensures same { (seat.new.table ≡ seat.old.table) × (seat.new.view ≡ seat.old.view) }
@@ -74,7 +74,7 @@ pub(crate) fn top_of(rows: &Rows, seat: &mut RowSeat, child: u32) -> u32
 }
 
 /// The number of items of an owned node is written.
-pub(crate) fn set_count(rows: &Rows, seat: &mut RowSeat, row: u32, n: u64)
+pub fn set_count(rows: &Rows, seat: &mut RowSeat, row: u32, n: u64)
     requires table { seat.old.table ≡ rows.now }
     requires node { (kind m : ℕ) × (us : List Tree) × OwnsNode seat.old.view row kind m us }
     ensures same { (seat.new.table ≡ seat.old.table) × (seat.new.view.refs ≡ seat.old.view.refs) }
@@ -85,7 +85,7 @@ pub(crate) fn set_count(rows: &Rows, seat: &mut RowSeat, row: u32, n: u64)
 }
 
 /// The number of items of an owned node.
-pub(crate) fn count_of(rows: &Rows, seat: &mut RowSeat, row: u32) -> u64
+pub fn count_of(rows: &Rows, seat: &mut RowSeat, row: u32) -> u64
     requires table { seat.old.table ≡ rows.now }
     requires node { (kind n : ℕ) × (us : List Tree) × OwnsNode seat.old.view row kind n us }
     ensures same { seat.new ≡ seat.old }
@@ -105,7 +105,7 @@ pub(crate) fn kind_of(rows: &Rows, seat: &mut RowSeat, row: u32) -> u64
 }
 
 /// An owned node goes live, and the seat has the one reference to it.
-pub(crate) fn publish_node(rows: &Rows, seat: &mut RowSeat, row: u32)
+pub fn publish_node(rows: &Rows, seat: &mut RowSeat, row: u32)
     requires table { seat.old.table ≡ rows.now }
     requires node { (kind n : ℕ) × (us : List Tree) × OwnsNode seat.old.view row kind n us × Each (λ u. depth u ≤ 3) us }
     requires room { length seat.old.view.refs < 2 ^ 32 }
@@ -181,7 +181,7 @@ fn copy_node(rows: &Rows, seat: &mut RowSeat, row: u32, copy: u32, kind: u64, n:
 }
 
 /// The seat's reference to a live node becomes an owned node with the same links: the row itself where its count is 1, else a copy.
-pub(crate) fn own_node(rows: &Rows, seat: &mut RowSeat, row: u32, chain: &mut Chain) -> u32
+pub fn own_node(rows: &Rows, seat: &mut RowSeat, row: u32, chain: &mut Chain) -> u32
     requires table { seat.old.table ≡ rows.now }
     requires node { (h : ℕ) × (xs : List Tree) × (tree_word (tree_of row seat.old.view.refs) ≡ suc row) × Stands h (tree_of row seat.old.view.refs) xs }
     requires few { length seat.old.view.refs + 1 < 2 ^ 32 }
@@ -204,15 +204,7 @@ pub(crate) fn own_node(rows: &Rows, seat: &mut RowSeat, row: u32, chain: &mut Ch
 }
 
 /// n links of an owned node, from the place a on, go to another one's empty links from the place b on.
-pub(crate) fn move_links(
-    rows: &Rows,
-    seat: &mut RowSeat,
-    from: u32,
-    to: u32,
-    a: u32,
-    b: u32,
-    n: u32,
-)
+pub fn move_links(rows: &Rows, seat: &mut RowSeat, from: u32, to: u32, a: u32, b: u32, n: u32)
     requires table { seat.old.table ≡ rows.now }
     requires links { CanMove seat.old.view from to a b n }
     ensures same { (seat.new.table ≡ seat.old.table) × (seat.new.view.refs ≡ seat.old.view.refs) }

@@ -5,7 +5,7 @@ ghost use Rattle.row_pool.specs.SeatView.{SeatView};
 ghost use Rattle.row_pool.specs.Changes.{tree_of, without_tree, with_ref};
 ghost use Rattle.row_pool.specs.Chains.{IsChain};
 ghost use Rattle.latch_item.specs.Items.{Item, IsLatch, IsItemOf, word};
-ghost use Rattle.latch_item.specs.Shape.{Node, Stands, Refers};
+ghost use Rattle.latch_item.specs.Shape.{Node, Stands, Refers, RefersTo};
 ghost use Rattle.interval_tree.specs.Held.{OwnsNode, Spends, HasRoom};
 ghost use Rattle.interval_tree.specs.Nodes.{Inserted};
 ghost use Rattle.interval_tree.specs.States.{RootNode, Coming, Entering, Standing};
@@ -140,6 +140,23 @@ impl Tree {
             height: 0,
             len: 0,
         }
+    }
+
+    /// The tree of this root, height and number of items. That a seat refers to its root is for the caller to keep.
+    pub fn of_parts(root: Option<u32>, height: u32, len: u32) -> Tree
+        requires { root ≡ None → height ≡ 0 }
+        ensures tree { (v : SeatView) (xs : List Row) → RefersTo v root height xs → len ≡ length xs → Keeps v result xs }
+        ensures root { root_of result ≡ root }
+        ensures height { height_of result ≡ height }
+    {
+        Tree { root, height, len }
+    }
+
+    /// The row of its root, none of an empty tree.
+    pub fn root(&self) -> Option<u32>
+        ensures { result ≡ root_of self.now }
+    {
+        self.root
     }
 
     /// The number of its items.
