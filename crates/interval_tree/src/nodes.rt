@@ -95,7 +95,7 @@ pub fn count_of(rows: &Rows, seat: &mut RowSeat, row: u32) -> u64
 }
 
 /// The kind of an owned node: 2 for a leaf, 3 for an inner node.
-pub(crate) fn kind_of(rows: &Rows, seat: &mut RowSeat, row: u32) -> u64
+pub fn kind_of(rows: &Rows, seat: &mut RowSeat, row: u32) -> u64
     requires table { seat.old.table ≡ rows.now }
     requires node { (kind n : ℕ) × (us : List Tree) × OwnsNode seat.old.view row kind n us }
     ensures same { seat.new ≡ seat.old }
