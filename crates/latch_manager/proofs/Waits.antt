@@ -52,7 +52,8 @@ module _ (old new : WaitingSays) (learnt : LearntEnds old new) where
 -- the request that blocks it is a prerequisite
 blocker : (old new : RequestView) (x : HeldLatch) → FirstOpen old new x → IsPrerequisite old x.by x.lane
 blocker old new x f =
-    (x, subst (λ (xs : List HeldLatch). Contains xs x) (sym f.stands) (Contains-from_In (f.front ++ x ∷ f.rest) x (In-append_right f.front (x ∷ f.rest) x (inl refl))), refl, refl)
+    let there = Contains-from_In (f.front ++ x ∷ f.rest) x (In-append_right f.front (x ∷ f.rest) x (inl refl)) in
+    (x, subst (λ (xs : List HeldLatch). Contains xs x) (sym f.stands) there, refl, refl)
 
 first_found : (r : RequestView) (came now : Cause) (p lane : ℕ) → IsPrerequisite r p lane → CauseFound r came Wait now
     → CauseFound r came Wait (first_cause now (From p))

@@ -161,7 +161,8 @@ impl<N: Making> Manager<N> {
         requires tables { (pass.old.table ≡ N.made.table) × (waiting.table ≡ N.made.table) }
         requires session { waiting.r.who ≡ pass.old.p.who }
         ensures granted { IfOk result (λ g. WaitGrants waiting g × (pass.new ≡ pass.old)) }
-        ensures failed { IfErr result (λ f. WaitEnds N.made pass.old waiting (P.refusals patience.old) (P.refusals patience.new) (P.limit patience.old) f pass.new) }
+        ensures failed { IfErr result (λ f.
+            WaitEnds N.made pass.old waiting (P.refusals patience.old) (P.refusals patience.new) (P.limit patience.old) f pass.new) }
         ensures later { P.refusals patience.old ≤ P.refusals patience.new }
         ensures limit { P.limit patience.new ≡ P.limit patience.old }
     {
@@ -187,7 +188,8 @@ impl<N: Making> Manager<N> {
         requires table { pass.old.table ≡ N.made.table }
         requires idle { open_count pass.old.p.mine ≡ 0 }
         ensures granted { IfOk result (λ g. Acquires N.made pass.old request Acquire g pass.new) }
-        ensures failed { IfErr result (λ f. AcquireFails N.made pass.old request Acquire (P.refusals patience.old) (P.refusals patience.new) (P.limit patience.old) f pass.new) }
+        ensures failed { IfErr result (λ f.
+            AcquireFails N.made pass.old request Acquire (P.refusals patience.old) (P.refusals patience.new) (P.limit patience.old) f pass.new) }
         ensures later { P.refusals patience.old ≤ P.refusals patience.new }
         ensures limit { P.limit patience.new ≡ P.limit patience.old }
     {
@@ -212,7 +214,8 @@ impl<N: Making> Manager<N> {
         requires table { pass.old.table ≡ N.made.table }
         requires idle { open_count pass.old.p.mine ≡ 0 }
         ensures looked { IfOk result (λ id. Looks N.made pass.old request Look id pass.new) }
-        ensures failed { IfErr result (λ f. AcquireFails N.made pass.old request Look (P.refusals patience.old) (P.refusals patience.new) (P.limit patience.old) f pass.new) }
+        ensures failed { IfErr result (λ f.
+            AcquireFails N.made pass.old request Look (P.refusals patience.old) (P.refusals patience.new) (P.limit patience.old) f pass.new) }
         ensures later { P.refusals patience.old ≤ P.refusals patience.new }
         ensures limit { P.limit patience.new ≡ P.limit patience.old }
     {

@@ -19,9 +19,10 @@ returns-clause-shown g c p there =
 
 pub returns-clause-by_given : goal.returns-clause-by_given
 returns-clause-by_given g c =
-    along c.close.result _ _ _ c.close.ensures.history (c.known.ensures.given ∙ ap (λ (s : Sizes). s.lanes) c.into_parts-core.ensures.desk.1) c.close.ensures.by_given
+    along c.close.result _ _ _ c.close.ensures.history (c.known.ensures.given ∙ ap (λ (s : Sizes). s.lanes) c.into_parts-core.ensures.desk.1)
+    c.close.ensures.by_given
   where
-    along : (h : Recorded) (log : List Entry) (given lanes : ℕ) {sizes : Sizes} → h ≡ record { entries = log; sizes = sizes } → given ≡ lanes → ByGiven log given
-        → ByGiven h.entries lanes
+    along : (h : Recorded) (log : List Entry) (given lanes : ℕ) {sizes : Sizes} → h ≡ record { entries = log; sizes = sizes } → given ≡ lanes →
+        ByGiven log given → ByGiven h.entries lanes
     along h log given lanes is same by =
         subst (λ (x : Recorded). ByGiven x.entries lanes) (sym is) (subst (ByGiven log) same by)
