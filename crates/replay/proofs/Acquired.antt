@@ -17,7 +17,8 @@ use Rattle.latch_manager.specs.declared.wait.WaitFault.TheVariants as wait_fault
 use Rattle.replay.specs.Blocks.{GrowsBy, new_block}
 use Rattle.replay.specs.Sessions.{Checking, Holding, Idle, Over, PatienceOf, Standing, TurnsOf}
 use Rattle.replay.proofs.Openings.{opens_checking}
-use Rattle.replay.proofs.Outcomes.{acquired-failed, acquired-stopped, cancelled_after, looked-failed, looked-over, looked-stopped, turned-over_failed, turned-over_stopped}
+use Rattle.replay.proofs.Outcomes.{acquired-failed, acquired-stopped, cancelled_after, looked-failed, looked-over, looked-stopped, turned-over_failed}
+use Rattle.replay.proofs.Outcomes.{turned-over_stopped}
 use Rattle.replay.proofs.Turns.{acquired-holds}
 
 module _ (made : Made) (old new : PassSays) (bs : List Block) (line : ℕ) (policy : Policy) (turns : Option ℕ) (latches : List Latch) (request : Declaration)
@@ -26,7 +27,8 @@ module _ (made : Made) (old new : PassSays) (bs : List Block) (line : ℕ) (poli
     pub acquires-stands : (g : GrantedSays) → Acquires made old request Acquire g new →
         Standing made.table new.p (bs ++ new_block line Acquire policy turns latches ∷ []) (Holding g)
     acquires-stands g a =
-        acquired-holds made old new line policy turns latches a.opened (subst (λ (d : Declaration). Began made old Acquire d a.opened new) is a.began) bs s g a.grants
+        acquired-holds made old new line policy turns latches a.opened
+        (subst (λ (d : Declaration). Began made old Acquire d a.opened new) is a.began) bs s g a.grants
 
     pub acquire-poisoned : (before now : ℕ) (limit : Option ℕ) (mark : Mark) →
         AcquireFails made old request Acquire before now limit (acquire_fault.Poisoned mark) new →

@@ -1,5 +1,6 @@
 -- A check of the optimistic request in hand answers as the definition of what a block's checks passed.
-use Rattle.std.proofs.Common.{◌≡◌, ◌≢◌, ℕ, ◌+◌, ◌&&◌, Bool, true, false, not, cond, IsTrue, List, [], ◌∷◌, ◌++◌, Option, Some, None, refl, sym, ◌∙◌, ap, subst, inl, inr, ◌||◌}
+use Rattle.std.proofs.Common.{◌≡◌, ◌≢◌, ℕ, ◌+◌, ◌&&◌, Bool, true, false, not, cond, IsTrue, List, [], ◌∷◌, ◌++◌, Option, Some, None, refl, sym, ◌∙◌}
+use Rattle.std.proofs.Common.{ap, subst, inl, inr, ◌||◌}
 use Rattle.std.specs.List.{list_all, list_any, position, position_from}
 use Rattle.std.proofs.lemmas.Bool.{false_from_ne_true}
 use Rattle.std.proofs.lemmas.Iterator.Adapters.{position_from-zero}
@@ -71,7 +72,8 @@ module _ (own : List Latch) (held : List HeldLatch) (asked : List Latch) (all : 
   free none = false_from_ne_true (list_any (meets_held held) asked) (λ some.
       let l = list_any_of (meets_held held) asked some in
       let x = list_any_of (λ (y : HeldLatch). conflict l.0 y.latch) held l.2 in
-      subst (λ (xs : List HeldLatch). In (listed x.0) xs) none (met_in-In own held asked x.0 captured x.1 (Any-In (λ m. IsTrue (conflict m x.0.latch)) asked l.0 l.1 x.2)))
+      subst (λ (xs : List HeldLatch). In (listed x.0) xs) none
+      (met_in-In own held asked x.0 captured x.1 (Any-In (λ m. IsTrue (conflict m x.0.latch)) asked l.0 l.1 x.2)))
 
   -- and where something is, something was
   taken : (y : HeldLatch) (rest : List HeldLatch) → met_in (snapshot_of own held) asked ≡ y ∷ rest → list_any (meets_held held) asked ≡ true

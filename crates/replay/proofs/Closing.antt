@@ -127,7 +127,8 @@ no_blocks cs w no_session =
     false-true (sym no_session ∙ list_any-In (opens_in w) cs p.1 (enumerate_of-In 2 p.0 cs p.1 own.0) (opens_own cs w p.1 own.1 is)))
 
 -- one with an entry is a session of the script
-some_session : (cs : List Command) (w : ℕ) (passed : _) (es : List Entry) (e : Entry) → In e es → AllMadeBy passed (blocks_of cs w) es → is_session_of cs w ≡ true
+some_session : (cs : List Command) (w : ℕ) (passed : _) (es : List Entry) (e : Entry) → In e es → AllMadeBy passed (blocks_of cs w) es →
+    is_session_of cs w ≡ true
 some_session cs w passed es e i made = by (is_session_of cs w) refl
   where
     none : (xs : List Entry) → In e xs → AllMadeBy passed [] xs → ⊥

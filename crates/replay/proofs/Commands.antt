@@ -163,12 +163,14 @@ module _ (cs : List Command) (s : IsScript cs) (table : TableId) (w i : ℕ) (ol
         by : (x : Bool) → same_name name n ≡ x → name ≡ n
         by true e = same_is name n e
         by false e =
-            absurd (false-true (sym (on_other-is_not cs s i w c at name is_on (λ h. false-true (sym e ∙ (ap (λ (m : List ℕ). same_name m n) (l.1 name h) ∙ same_self n))))
+            absurd (false-true (sym (on_other-is_not cs s i w c at name is_on
+            (λ h. false-true (sym e ∙ (ap (λ (m : List ℕ). same_name m n) (l.1 name h) ∙ same_self n))))
             ∙ own))
 
     -- one that leaves it live
     kept : (live : Option ℕ) (given : Option ℕ) → ((n : List ℕ) → opens_for w n c ≡ false) → ((n : List ℕ) → releases n c ≡ false) →
-        (hand ≢ Idle → RunsTo (i + 2) (turns_at cs live) c hand before behind) → Ran table (i + 2) (turns_at cs live) c old hand new next → (hand ≢ Idle → next ≢ Idle) →
+        (hand ≢ Idle → RunsTo (i + 2) (turns_at cs live) c hand before behind) → Ran table (i + 2) (turns_at cs live) c old hand new next →
+        (hand ≢ Idle → next ≢ Idle) →
         IsAt cs table w i old live hand → IsAt cs table w (i + 1) new live next
     kept None given opens_no releases_no runs run tied a = absurd (none_absurd None refl a.named)
     kept (Some k) given opens_no releases_no runs run tied a =
@@ -220,7 +222,8 @@ module _ (cs : List Command) (s : IsScript cs) (table : TableId) (w i : ℕ) (ol
       kept (Wait name) at own tt name refl (Some k) None (λ n. refl) (λ n. refl)
       (λ busy. (busy, grows-by cs w i (Wait name) at own tt, turns_there (Some k) busy a.named)) run tied a
   at-own (Check name latches) live at own run tied a =
-      kept (Check name latches) at own tt name refl live None (λ n. refl) (λ n. refl) (λ busy. (busy, grows-by cs w i (Check name latches) at own tt)) run tied a
+      kept (Check name latches) at own tt name refl live None (λ n. refl) (λ n. refl)
+      (λ busy. (busy, grows-by cs w i (Check name latches) at own tt)) run tied a
   at-own (Poison name) live at own run tied a =
       kept (Poison name) at own tt name refl live None (λ n. refl) (λ n. refl) (λ busy. (busy, grows-by cs w i (Poison name) at own tt)) run tied a
   at-own (Release name) live at own run tied a =

@@ -1,5 +1,6 @@
 -- At the end a session's entries follow its commands, in what its pass has been shown and in the whole history.
-use Rattle.std.proofs.Common.{◌≡◌, ℕ, ◌<◌, ◌≤◌, ◌==◌, Bool, true, false, cond, IsTrue, List, [], ◌∷◌, ◌++◌, length, Option, Some, None, refl, sym, ◌∙◌, ap, subst, inl, inr}
+use Rattle.std.proofs.Common.{◌≡◌, ℕ, ◌<◌, ◌≤◌, ◌==◌, Bool, true, false, cond, IsTrue, List, [], ◌∷◌, ◌++◌, length, Option, Some, None, refl, sym}
+use Rattle.std.proofs.Common.{◌∙◌, ap, subst, inl, inr}
 use Rattle.std.specs.List.{All, filter, list_any}
 use Rattle.atomic_table.specs.Seated.{TableId}
 use Rattle.latch_model.specs.Histories.{Begin, begin_with, has_begun}

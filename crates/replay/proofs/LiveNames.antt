@@ -11,7 +11,8 @@ use Rattle.latch_model.specs.declared.latch.Policy.{Policy}
 use Rattle.latch_model.proofs.Growing.{list_any-prefix}
 use Rattle.latch_model.proofs.Lists.{In, In-take, list_any-In}
 use Rattle.latch_model.proofs.Members.{list_any_of, place-In, take_next}
-use Rattle.script.specs.Commands.{is_busy, is_checkable, is_live, is_used, leaves_live, live_cause, opens, opens_for, opens_live, releases, rule_cause, same_name}
+use Rattle.script.specs.Commands.{is_busy, is_checkable, is_live, is_used, leaves_live, live_cause, opens, opens_for, opens_live, releases}
+use Rattle.script.specs.Commands.{rule_cause, same_name}
 use Rattle.script.specs.Follows.{is_of}
 use Rattle.script.specs.Scripts.{IsScript}
 use Rattle.script.specs.declared.command.Command.{Command}

@@ -128,5 +128,8 @@ opens_checking made old new line policy turns latches opened k bs s =
         },
         refl,
       );
-      given = (ap (λ (x : LaneSays). x.table) k.opened_is, ap (λ (x : LaneSays). x.r.who) k.opened_is ∙ sym (opening_who made old new Optimistic block opened k bs s));
+      given = (
+        ap (λ (x : LaneSays). x.table) k.opened_is,
+        ap (λ (x : LaneSays). x.r.who) k.opened_is ∙ sym (opening_who made old new Optimistic block opened k bs s),
+      );
     }

@@ -1,5 +1,6 @@
 -- What waits that failed leave of a session, by their faults.
-use Rattle.std.proofs.Common.{◌≡◌, ◌≢◌, ℕ, ◌+◌, ◌-◌, ◌^◌, ◌<◌, ◌≤◌, ◌⊎◌, min, true, false, List, [], ◌∷◌, ◌++◌, Option, Some, None, refl, sym, ◌∙◌, ap, subst, arith, inl, inr}
+use Rattle.std.proofs.Common.{◌≡◌, ◌≢◌, ℕ, ◌+◌, ◌-◌, ◌^◌, ◌<◌, ◌≤◌, ◌⊎◌, min, true, false, List, [], ◌∷◌, ◌++◌, Option, Some, None, refl, sym, ◌∙◌}
+use Rattle.std.proofs.Common.{ap, subst, arith, inl, inr}
 use Rattle.latch_model.specs.declared.history.Cause.{Cause}
 use Rattle.latch_model.specs.declared.history.Fault.{Fault}
 use Rattle.latch_model.specs.declared.history.Fault.TheVariants.{None as no_fault, Poisoned, Cancelled}
@@ -42,7 +43,8 @@ module _ (made : Made) (old mid new : PassSays) (line : ℕ) (policy : Policy) (
     abbrev block : Block
     block = new_block line Acquire policy turns latches
 
-    pub acquired-failed : (mark : Mark) → WaitMeets (unpolled opened) mark ending → Standing made.table new.p (bs ++ new_block line Acquire policy turns latches ∷ []) Over
+    pub acquired-failed : (mark : Mark) → WaitMeets (unpolled opened) mark ending →
+        Standing made.table new.p (bs ++ new_block line Acquire policy turns latches ∷ []) Over
     acquired-failed mark w =
         opened-over made old mid new block opened k bs s ending w.r w.still (ap (λ (x : EndingSays). begun_as x.r) w.ending_is)
         (ap (λ (x : EndingSays). x.r.cause) w.ending_is) f
@@ -77,7 +79,8 @@ module _ (made : Made) (old mid new : PassSays) (line : ℕ) (policy : Policy) (
     abbrev look : Block
     look = new_block line Look policy turns latches
 
-    pub looked-failed : (mark : Mark) → WaitMeets (unpolled opened) mark ending → Standing made.table new.p (bs ++ new_block line Look policy turns latches ∷ []) Over
+    pub looked-failed : (mark : Mark) → WaitMeets (unpolled opened) mark ending →
+        Standing made.table new.p (bs ++ new_block line Look policy turns latches ∷ []) Over
     looked-failed mark w =
         opened-over made old mid new look opened k bs s ending w.r w.still (ap (λ (x : EndingSays). begun_as x.r) w.ending_is)
         (ap (λ (x : EndingSays). x.r.cause) w.ending_is) f
@@ -130,7 +133,8 @@ module _ (made : Made) (old mid new : PassSays) (line : ℕ) (policy : Policy) (
 -- ---- an optimistic request that turned to waiting, whose wait failed
 
 module _ (made : Made) (old new : PassSays) (bs ds : List Block) (c : Command) (grows : GrowsBy c bs ds) (waits : is_wait c ≡ true)
-    (quiet : is_poison c ≡ false) (o : OptimistSays) (s : Standing made.table old.p bs (Checking o)) (ending : EndingSays) (f : Finished made old ending new) where
+    (quiet : is_poison c ≡ false) (o : OptimistSays) (s : Standing made.table old.p bs (Checking o)) (ending : EndingSays)
+    (f : Finished made old ending new) where
   abbrev came : WaitingSays
   came = record { table = o.table; r = o.r; turns = 0; last = Unpolled }
 

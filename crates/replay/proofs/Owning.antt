@@ -95,7 +95,8 @@ at-start cs table pass f = record {
 }
   where
     start : (shown mine : _) → shown ≡ [] → mine ≡ [] → Standing table (record pass.p { shown = shown; mine = mine }) [] Idle
-    start shown mine a b = subst (λ x. Standing table (record pass.p { shown = shown; mine = x }) [] Idle) (sym b) record { each = tt; stands = tt; given = refl }
+    start shown mine a b = subst (λ x. Standing table (record pass.p { shown = shown; mine = x }) [] Idle) (sym b)
+        record { each = tt; stands = tt; given = refl }
 
 pub idle-at_end : (cs : List Command) → IsScript cs → (table : TableId) (w : ℕ) (pass : PassSays) (live : Option ℕ) (hand : Hand) →
     IsAt cs table w (length cs) pass live hand → hand ≡ Idle

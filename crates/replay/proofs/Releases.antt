@@ -26,7 +26,8 @@ pub releases-holding : (made : Made) (old new : PassSays) (bs ds : List Block) (
     Standing made.table new.p ds Idle
 releases-holding made old new bs ds c grows quiet g s f =
     let t : Standing made.table old.p ds (Holding g) = holding-stays made.table old.p bs ds c grows g quiet s in
-    ends-idle made old new ds (begun_as g.r) (holding-is_open made.table old.p ds g t) (record { table = g.table; r = g.r; grant = g.grant; fault = no_fault }) f refl
+    ends-idle made old new ds (begun_as g.r) (holding-is_open made.table old.p ds g t)
+    (record { table = g.table; r = g.r; grant = g.grant; fault = no_fault }) f refl
     (holding-ends old.p.shown t.stands.last g (passed_in new.p.shown g.r.id t.stands.last) t.stands.unreleased.0)
 
 -- an optimistic one ends by what its checks passed

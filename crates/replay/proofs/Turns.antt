@@ -16,7 +16,8 @@ use Rattle.latch_model.specs.declared.latch.Mode.{Mode}
 use Rattle.latch_model.specs.declared.latch.Mode.TheVariants.{Acquire, Optimistic, Look}
 use Rattle.latch_model.specs.declared.latch.Policy.{Policy}
 use Rattle.latch_model.specs.declared.latch.Policy.TheVariants.{Wait, Error}
-use Rattle.script.specs.Follows.{AllMadeBy, AnyCause, Block, CauseOfAnother, EndEntry, MadeBy, NoCause, OwnCause, called_cause, declaration_of, has_wait, is_called}
+use Rattle.script.specs.Follows.{AllMadeBy, AnyCause, Block, CauseOfAnother, EndEntry, MadeBy, NoCause, OwnCause, called_cause, declaration_of}
+use Rattle.script.specs.Follows.{has_wait, is_called}
 use Rattle.script.specs.Follows.{is_early, is_poison, is_wait, passed_behind, passed_grant, passed_in}
 use Rattle.script.specs.declared.command.Command.{Command}
 use Rattle.signal_board.specs.Rule.{IsPrefix, begun_as, entries, open_count}
@@ -26,10 +27,12 @@ use Rattle.waiter.specs.Says.{EndingSays, GrantedSays, OptimistSays, WaitingSays
 use Rattle.latch_manager.specs.Making.{Began, Finished, Made, unpolled}
 use Rattle.latch_manager.specs.Waiting.{AtLimit, CauseAfter, CauseFound, IsFound, StillWaits, WaitGrants}
 use Rattle.replay.specs.Blocks.{GrowsBy, new_block, with_more}
-use Rattle.replay.specs.Sessions.{Busy, Checking, EachBegun, FailedWait, Hand, HandGiven, HeldCause, Holding, Idle, IsChecking, IsHolding, IsOver, OpenBlock, Over}
+use Rattle.replay.specs.Sessions.{Busy, Checking, EachBegun, FailedWait, Hand, HandGiven, HeldCause, Holding, Idle, IsChecking, IsHolding, IsOver}
+use Rattle.replay.specs.Sessions.{OpenBlock, Over}
 use Rattle.replay.specs.Sessions.{OverBy, Standing, Stands, Unreleased, end_of}
 use Rattle.replay.proofs.Endings.{ends-idle, ends-over, ends_with, opened-is_open}
-use Rattle.replay.proofs.Hands.{checking-ends, checking-grown, checking-poisoned, checking-quiet, holding-ends, holding-poisoned, holding-quiet, over-ends, over-more}
+use Rattle.replay.proofs.Hands.{checking-ends, checking-grown, checking-poisoned, checking-quiet, holding-ends, holding-poisoned, holding-quiet}
+use Rattle.replay.proofs.Hands.{over-ends, over-more}
 use Rattle.replay.proofs.Made.{called-more, early-first, waits-more}
 use Rattle.replay.proofs.Openings.{opening_begun, opening_busy, opening_cause, opening_declared, opening_each, opening_mode, opening_who}
 
@@ -114,7 +117,8 @@ module _ (made : Made) (old mid new : PassSays) (block : Block) (opened : LaneSa
 
 -- ---- the request in hand is that of the last block
 
-abbrev pub checking-is_open : (table : TableId) (p : PassView) (bs : List Block) (o : OptimistSays) → Standing table p bs (Checking o) → OpenBlock p bs (begun_as o.r)
+abbrev pub checking-is_open : (table : TableId) (p : PassView) (bs : List Block) (o : OptimistSays) → Standing table p bs (Checking o) →
+    OpenBlock p bs (begun_as o.r)
 checking-is_open table p bs o s = record {
   done = s.stands.done;
   last = s.stands.last;
@@ -129,7 +133,8 @@ checking-is_open table p bs o s = record {
   session = s.given.1;
 }
 
-abbrev pub holding-is_open : (table : TableId) (p : PassView) (bs : List Block) (g : GrantedSays) → Standing table p bs (Holding g) → OpenBlock p bs (begun_as g.r)
+abbrev pub holding-is_open : (table : TableId) (p : PassView) (bs : List Block) (g : GrantedSays) → Standing table p bs (Holding g) →
+    OpenBlock p bs (begun_as g.r)
 holding-is_open table p bs g s = record {
   done = s.stands.done;
   last = s.stands.last;

@@ -134,7 +134,9 @@ module _ (made : Made) (old new : PassSays) (bs ds : List Block) (c : Command) (
 
   pub turned-failed : (p : ℕ) → ending.grant ≡ Never → ending.fault ≡ Poisoned p → o.r.request.policy ≡ Error → Standing made.table new.p ds Over
   turned-failed p never fault policy =
-      over (over_by (by (is_called last) (failed_turned o.r o.r.request.policy ending.r.cause (is_called last) policy came) ending.grant ending.fault never fault))
+      over
+      (over_by
+      (by (is_called last) (failed_turned o.r o.r.request.policy ending.r.cause (is_called last) policy came) ending.grant ending.fault never fault))
     where
       by : (x : Bool) → MatchBool x (OwnCause ending.r.cause) (NoCause ending.r.cause) → (grant : _) (f : Fault) → grant ≡ Never → f ≡ Poisoned p →
           MatchBool x (FailedWait last.turns OwnCause OwnCause grant f ending.r.cause) (FailedWait last.turns NoCause CauseOfAnother grant f ending.r.cause)

@@ -1,5 +1,6 @@
 -- What a session does with one command, and where it stands in front of each.
-use Rattle.std.specs.Prelude.{◌≡◌, ◌≢◌, ℕ, zero, suc, ◌+◌, ◌==◌, ◌≤◌, Bool, false, List, [], ◌∷◌, ◌++◌, Option, Some, None, IfSome, length, map, slice_get, take}
+use Rattle.std.specs.Prelude.{◌≡◌, ◌≢◌, ℕ, zero, suc, ◌+◌, ◌==◌, ◌≤◌, Bool, false, List, [], ◌∷◌, ◌++◌, Option, Some, None, IfSome, length, map}
+use Rattle.std.specs.Prelude.{slice_get, take}
 use Rattle.atomic_table.specs.Seated.{TableId}
 use Rattle.latch_model.specs.declared.history.Sizes.{Sizes}
 use Rattle.latch_model.specs.declared.latch.Latch.{Latch}

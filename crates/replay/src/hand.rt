@@ -265,7 +265,8 @@ pub(crate) fn check<N: Making, R: Wait>(
 
 fn check_these<N: Making>(manager: &Manager<N>, hand: Hand, asked: Latches) -> Hand
     requires board { HandAt N.made.table hand }
-    ensures stands { (p : PassView) (bs ds : List Block) (name : List ℕ) → hand ≢ Idle → GrowsBy (is_check_of name asked) bs ds → Standing N.made.table p bs hand →
+    ensures stands { (p : PassView) (bs ds : List Block) (name : List ℕ) → hand ≢ Idle → GrowsBy (is_check_of name asked) bs ds →
+        Standing N.made.table p bs hand →
         Standing N.made.table p ds result }
     ensures given { (p : PassView) → HandGiven N.made.table p hand → HandGiven N.made.table p result }
     ensures some { hand ≢ Idle → result ≢ Idle }

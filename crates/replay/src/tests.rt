@@ -39,7 +39,9 @@ fn two_sessions_write_one_key(rt: HostRuntime) -> Result<(), Fail> {
 #[test]
 fn each_command_is_run(rt: HostRuntime) -> Result<(), Fail> {
     let text =
-        b"latch script 1\nacquire 1 put error r:016b7a w:7a31@100\noptimistic 2 scan wait r:7a30-7a39@120\nlook 3 seen wait w:7a31\nacquire 4 split wait turns=3 w:016b7a w:7a00-7aff\npoison put\ncheck scan r:7a31@120\nmetrics\nrelease put\nwait scan\nrelease scan\nwait seen\nrelease seen\nwait split\nrelease split\nacquire 1 again wait w:61\nrelease again\nend\n";
+        b"latch script 1\nacquire 1 put error r:016b7a w:7a31@100\noptimistic 2 scan wait r:7a30-7a39@120\nlook 3 seen wait w:7a31\n\
+        acquire 4 split wait turns=3 w:016b7a w:7a00-7aff\npoison put\ncheck scan r:7a31@120\nmetrics\nrelease put\nwait scan\nrelease scan\n\
+        wait seen\nrelease seen\nwait split\nrelease split\nacquire 1 again wait w:61\nrelease again\nend\n";
     for _ in 0..20 {
         assert!(rt; entries_of_run(&rt, rt.alloc(), text) == 10);
     }

@@ -11,7 +11,8 @@ returns-in-Ok-clause-stands g c bs line policy turns latches of is s =
 
 pub returns-in-Err-Poisoned-clause-stands : goal.returns-in-Err-Poisoned-clause-stands
 returns-in-Err-Poisoned-clause-stands g c bs line policy turns latches of is s =
-    acquire-poisoned g.N.Making.made c.args.pass.now c.acquire.new.pass bs line policy turns latches c.args.request s is (g.P.Patience.refusals c.args.patience.now)
+    acquire-poisoned g.N.Making.made c.args.pass.now c.acquire.new.pass bs line policy turns latches c.args.request s is
+    (g.P.Patience.refusals c.args.patience.now)
     (g.P.Patience.refusals c.acquire.new.patience) (g.P.Patience.limit c.args.patience.now) c.in-Err-Poisoned.field-0-0
     (subst
     (λ (x : AcquireFault). AcquireFails g.N.Making.made c.args.pass.now c.args.request Acquire (g.P.Patience.refusals c.args.patience.now)
@@ -20,7 +21,8 @@ returns-in-Err-Poisoned-clause-stands g c bs line policy turns latches of is s =
 
 pub returns-clause-stands : goal.returns-clause-stands
 returns-clause-stands g c bs line policy turns latches of is s =
-    acquire-cancelled g.N.Making.made c.args.pass.now c.acquire.new.pass bs line policy turns latches c.args.request s is (g.P.Patience.refusals c.args.patience.now)
+    acquire-cancelled g.N.Making.made c.args.pass.now c.acquire.new.pass bs line policy turns latches c.args.request s is
+    (g.P.Patience.refusals c.args.patience.now)
     (g.P.Patience.refusals c.acquire.new.patience) (g.P.Patience.limit c.args.patience.now) c.in-Err-Cancelled.field-0-0
     of (subst
     (λ (x : AcquireFault). AcquireFails g.N.Making.made c.args.pass.now c.args.request Acquire (g.P.Patience.refusals c.args.patience.now)

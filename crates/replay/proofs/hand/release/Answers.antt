@@ -17,15 +17,18 @@ none_passed (Some ls) not_some = absurd (not_some (λ e. cc))
 
 pub returns-then-passed-clause-stands : goal.returns-then-passed-clause-stands
 returns-then-passed-clause-stands g c bs ds name busy grows s =
-    releases-checking g.N.Making.made c.args.pass.now c.release.new.pass bs ds (Release name) grows refl refl (λ declared held before. refl) c.in-Checking.optimist
+    releases-checking g.N.Making.made c.args.pass.now c.release.new.pass bs ds (Release name) grows refl refl
+    (λ declared held before. refl) c.in-Checking.optimist
     (subst (λ (h : Hand). Standing g.N.Making.made.table c.args.pass.now.p bs h) c.in-Checking.is s) (Checked c.confirm.ensures.0)
     (ap passed_grant (sym c.confirm.ensures.1))
-    (subst (λ (x : GrantedSays). Finished g.N.Making.made c.args.pass.now (record { table = x.table; r = x.r; grant = x.grant; fault = no_fault }) c.release.new.pass)
+    (subst (λ (x : GrantedSays). Finished g.N.Making.made c.args.pass.now
+    (record { table = x.table; r = x.r; grant = x.grant; fault = no_fault }) c.release.new.pass)
     c.confirm.ensures.2 c.release.ensures.finished)
 
 pub returns-else-passed-clause-stands : goal.returns-else-passed-clause-stands
 returns-else-passed-clause-stands g c bs ds name busy grows s =
-    releases-checking g.N.Making.made c.args.pass.now c.give_up.new.pass bs ds (Release name) grows refl refl (λ declared held before. refl) c.in-Checking.optimist
+    releases-checking g.N.Making.made c.args.pass.now c.give_up.new.pass bs ds (Release name) grows refl refl
+    (λ declared held before. refl) c.in-Checking.optimist
     (subst (λ (h : Hand). Standing g.N.Making.made.table c.args.pass.now.p bs h) c.in-Checking.is s) Never
     (ap passed_grant (sym (none_passed c.in-Checking.optimist.passed (λ some. let t = c.passed.ensures.1 some in let f = c.if-passed.false in cc))))
     (subst (λ (x : EndingSays). Finished g.N.Making.made c.args.pass.now x c.give_up.new.pass) c.abandon.ensures c.give_up.ensures.finished)

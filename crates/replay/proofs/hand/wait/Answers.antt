@@ -23,4 +23,5 @@ returns-in-Holding-clause-stands g c bs ds k busy grows waits quiet has s =
 
 pub returns-in-Over-clause-stands : goal.returns-in-Over-clause-stands
 returns-in-Over-clause-stands g c bs ds k busy grows waits quiet has s =
-    over-stays g.N.Making.made.table c.args.pass.now.p bs ds k grows (subst (λ (h : Hand). Standing g.N.Making.made.table c.args.pass.now.p bs h) c.in-Over.is s)
+    over-stays g.N.Making.made.table c.args.pass.now.p bs ds k grows
+    (subst (λ (h : Hand). Standing g.N.Making.made.table c.args.pass.now.p bs h) c.in-Over.is s)

@@ -9,7 +9,8 @@ pub returns-then-not-is_own-clause-at : goal.returns-then-not-is_own-clause-at
 returns-then-not-is_own-clause-at g c =
     at-other c.args.commands.now c.requires.script g.N.Making.made.table c.args.who c.args.i c.args.pass.now c.args.live c.args.hand
     c.index-commands-i.result (slice_get_read c.args.commands.now _ c.args.i c.index-commands-i.result refl c.requires.inside c.index-commands-i.is)
-    (sym (own-is c.args.commands.now c.requires.script c.args.i c.args.who c.index-commands-i.result (slice_get_read c.args.commands.now _ c.args.i c.index-commands-i.result refl c.requires.inside c.index-commands-i.is) g.N.Making.made.table
+    (sym (own-is c.args.commands.now c.requires.script c.args.i c.args.who c.index-commands-i.result
+    (slice_get_read c.args.commands.now _ c.args.i c.index-commands-i.result refl c.requires.inside c.index-commands-i.is) g.N.Making.made.table
     c.args.pass.now c.args.live c.args.hand c.requires.at)
     ∙ (sym c.is_own.ensures ∙ c.if-not-is_own.true))
     c.requires.at
@@ -24,8 +25,10 @@ returns-in-Ok-clause-at g c =
     (λ (l : Option ℕ). IsAt c.args.commands.now g.N.Making.made.table c.args.who (c.args.i + 1) c.run_command-ran.new.pass l c.in-Ok.next)
     (sym c.live_behind.ensures)
     (at-own c.args.commands.now c.requires.script g.N.Making.made.table c.args.who c.args.i c.args.pass.now c.run_command-ran.new.pass c.args.hand
-    c.in-Ok.next c.in-Ok.ensures.keeps c.index-commands-i.result c.args.live (slice_get_read c.args.commands.now _ c.args.i c.index-commands-i.result refl c.requires.inside c.index-commands-i.is)
-    (sym (own-is c.args.commands.now c.requires.script c.args.i c.args.who c.index-commands-i.result (slice_get_read c.args.commands.now _ c.args.i c.index-commands-i.result refl c.requires.inside c.index-commands-i.is) g.N.Making.made.table
+    c.in-Ok.next c.in-Ok.ensures.keeps c.index-commands-i.result c.args.live
+    (slice_get_read c.args.commands.now _ c.args.i c.index-commands-i.result refl c.requires.inside c.index-commands-i.is)
+    (sym (own-is c.args.commands.now c.requires.script c.args.i c.args.who c.index-commands-i.result
+    (slice_get_read c.args.commands.now _ c.args.i c.index-commands-i.result refl c.requires.inside c.index-commands-i.is) g.N.Making.made.table
     c.args.pass.now c.args.live c.args.hand c.requires.at)
     ∙ (sym c.is_own.ensures ∙ c.if-not-is_own.false))
     (subst
