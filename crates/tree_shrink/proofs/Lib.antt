@@ -1,0 +1,11 @@
+mod Bench
+mod Seams
+mod Gaps
+mod Borders
+mod Lending
+mod Joining
+mod Mending
+mod Finding
+mod Lowering
+mod Descending
+mod Reaching

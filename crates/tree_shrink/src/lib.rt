@@ -1,0 +1,12 @@
+//! Removal from an interval B-tree over counted rows. On the way down a child of 15 items first gets more: a neighbour that has more than 15 gives it one, else
+//! it becomes one with a neighbour. Nodes that a shot reaches are never changed: those on the way, and the neighbours that give, are copied.
+#![tactic(auto)]
+
+mod descent;
+mod ends;
+mod join;
+mod links;
+mod mend;
+mod whole;
+
+pub use whole::remove;
