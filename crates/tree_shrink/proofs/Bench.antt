@@ -6,7 +6,8 @@ use Rattle.row_pool.specs.Lists.{mem}
 use Rattle.row_pool.specs.SeatView.{SeatView}
 use Rattle.row_pool.specs.Trees.{Tree}
 use Rattle.row_pool.specs.declared.chain.Chain.{Chain}
-use Rattle.interval_tree.proofs.Frames.{mem-both, mem-cons, mem-more, owns-grows, owns-kept, spends-grows, spends-join, spends-more, spends-others, spends-self, spends-swap-after}
+use Rattle.interval_tree.proofs.Frames.{mem-both, mem-cons, mem-more, owns-grows, owns-kept, spends-grows, spends-join, spends-more, spends-others}
+use Rattle.interval_tree.proofs.Frames.{spends-self, spends-swap-after}
 use Rattle.interval_tree.specs.Held.{Frame, HasRoom, OthersStand, OwnsNode, Spends}
 
 -- a row that is owned as a node: its number, kind, count and links
@@ -152,10 +153,12 @@ module _ {v : SeatView} {xs rs : List ℕ} {j : ℕ} {w : SeatView} {c : Chain} 
       }
 
   -- a step on the first node
-  pub bench-step : {r kind n kind' n' : ℕ} {us us' : List Tree} {ns : List Owned} {x : SeatView} {S : List Tree} → Bench v xs rs j w c (node_at r kind n us ∷ ns) R
+  pub bench-step : {r kind n kind' n' : ℕ} {us us' : List Tree} {ns : List Owned} {x : SeatView} {S : List Tree}
+      → Bench v xs rs j w c (node_at r kind n us ∷ ns) R
       → OthersStand r w x → OwnsNode x r kind' n' us' → x.refs ≡ S → Bench v xs rs j x c (node_at r kind' n' us' ∷ ns) S
   bench-step {r} {kind} {n} {kind'} {n'} {us} {us'} {ns} {x} {S} b others owns refs =
-      let z = bench-call (node_at r kind n us ∷ []) (node_at r kind' n' us' ∷ []) ns b (λ ss h. spends-others w x r kind n us c [] ss b.owns.0 others h) (owns, tt) (refl, tt) refs in
+      let z = bench-call (node_at r kind n us ∷ []) (node_at r kind' n' us' ∷ []) ns b (λ ss h. spends-others w x r kind n us c [] ss b.owns.0 others h)
+      (owns, tt) (refl, tt) refs in
       record { spends = spends-more (j + 0) j xs (r ∷ rows ns) rs v x c (omega arith) z.spends; owns = z.owns; apart = z.apart; refs = z.refs }
 
   -- the first two nodes in the other order
@@ -229,13 +232,6 @@ module _ {v : SeatView} {xs rs : List ℕ} {j : ℕ} {w : SeatView} {c : Chain} 
   pub bench-more : {ns : List Owned} (k : ℕ) → j ≤ k → Bench v xs rs j w c ns R → Bench v xs rs k w c ns R
   bench-more {ns} k le b = record { spends = spends-more j k xs (rows ns) rs v w c le b.spends; owns = b.owns; apart = b.apart; refs = b.refs }
 
-  -- a call that leaves the view alone
-  pub bench-same : {ns : List Owned} {x : SeatView} → x ≡ w → Bench v xs rs j w c ns R → Bench v xs rs j x c ns R
-  bench-same {ns} e b = subst (λ z. Bench v xs rs j z c ns R) (sym e) b
-
-  pub bench-refs : {ns : List Owned} {S : List Tree} → R ≡ S → Bench v xs rs j w c ns R → Bench v xs rs j w c ns S
-  bench-refs {ns} e b = record { spends = b.spends; owns = b.owns; apart = b.apart; refs = b.refs ∙ e }
-
   pub bench-links : {r kind n : ℕ} {us us' : List Tree} {ns : List Owned} → us ≡ us' → Bench v xs rs j w c (node_at r kind n us ∷ ns) R
       → Bench v xs rs j w c (node_at r kind n us' ∷ ns) R
   bench-links {r} {kind} {n} e b = record { spends = b.spends; owns = (subst (OwnsNode w r kind n) e b.owns.0, b.owns.1); apart = b.apart; refs = b.refs }
@@ -245,7 +241,8 @@ module _ {v : SeatView} {xs rs : List ℕ} {j : ℕ} {w : SeatView} {c : Chain} 
   bench-apart {a} {b} {ns} o = (mem-cons a.0 b.0 (rows ns) o.apart.0).0
 
 -- how it begins
-pub bench-start : (v : SeatView) (c : Chain) (rs : List ℕ) (ns : List Owned) (refs : List Tree) → IsChain v c rs → OwnsAll v ns → Apart (rows ns) → v.refs ≡ refs
+pub bench-start : (v : SeatView) (c : Chain) (rs : List ℕ) (ns : List Owned) (refs : List Tree) → IsChain v c rs → OwnsAll v ns → Apart (rows ns)
+    → v.refs ≡ refs
     → Bench v (rows ns) rs 0 v c ns refs
 bench-start v c rs ns refs h o a r = record { spends = spends-self (rows ns) rs v c h; owns = o; apart = a; refs = r }
 

@@ -1,5 +1,6 @@
 -- The borders of a node: an item and the child beside it go, or come.
-use Rattle.std.proofs.Common.{List, [], ap, append-nil, append_assoc, arith, inl, inr, length, length-append, refl, replicate, subst, suc, sym, zero, ℕ, ⊎_elim, ◌++◌, ◌+◌, ◌-◌, ◌<◌, ◌^◌, ◌∙◌, ◌∷◌, ◌≡◌, ◌≢◌, ◌≤◌, ◌⊎◌}
+use Rattle.std.proofs.Common.{List, [], ap, append-nil, append_assoc, arith, inl, inr, length, length-append, refl, replicate, subst, suc, sym, zero, ℕ}
+use Rattle.std.proofs.Common.{⊎_elim, ◌++◌, ◌+◌, ◌-◌, ◌<◌, ◌^◌, ◌∙◌, ◌∷◌, ◌≡◌, ◌≢◌, ◌≤◌, ◌⊎◌}
 use Rattle.std.proofs.lemmas.List.{length-replicate}
 use Rattle.row_pool.specs.SeatView.{SeatView}
 use Rattle.row_pool.specs.Trees.{Tree, nil}
@@ -46,10 +47,6 @@ pub record Lends (h kind n j : ℕ) (us xs : List Tree) : Type 0 where
 pub among-split : (t : Tree) (us vs : List Tree) → Among t (us ++ vs) → Among t us ⊎ Among t vs
 among-split t [] vs h = inr h
 among-split t (u ∷ us) vs h = ⊎_elim (λ a. inl (inl a)) (λ b. ⊎_elim (λ c. inl (inr c)) (λ d. inr d) (among-split t us vs b)) h
-
--- two parts of a list in the other order
-turned-about : (t : Tree) (us vs : List Tree) → Among t (us ++ vs) → Among t (vs ++ us)
-turned-about t us vs a = ⊎_elim (λ p. among-back t vs us p) (λ p. among-front t vs us p) (among-split t us vs a)
 
 around-among : (t m : Tree) (ls l : List Tree) → Among t (ls ++ m ∷ l) → Among t (l ++ m ∷ ls)
 around-among t m ls l a = ⊎_elim (λ p. among-back t l (m ∷ ls) (inr p))

@@ -4,7 +4,7 @@ use Rattle.std.specs.Prelude.{None, Option, Some}
 use Rattle.row_pool.specs.Changes.{with_old_target}
 use Rattle.row_pool.specs.SeatView.{SeatView}
 use Rattle.row_pool.specs.Trees.{Tree, children, nil, tree_word}
-use Rattle.latch_item.specs.Items.{IsLatch, part, word}
+use Rattle.latch_item.specs.Items.{IsLatch, word}
 use Rattle.latch_item.specs.Shape.{Among, Each, IsTop, Kid, Node, Sorted}
 use Rattle.interval_tree.proofs.Depths.{each-among, node-items}
 use Rattle.interval_tree.proofs.Frames.{owns-others}
@@ -14,7 +14,8 @@ use Rattle.interval_tree.proofs.Rows.{back-cons}
 use Rattle.interval_tree.specs.Held.{OthersStand, OwnsNode}
 use Rattle.interval_tree.specs.Nodes.{ahead, behind}
 use Rattle.tree_shrink.proofs.Finding.{aims, among-end, last-gone, last-part, removed-within, some-last, target-wider}
-use Rattle.tree_shrink.proofs.Seams.{Cutout, close-right, cutout, item_back, item_front, right-of, seam-item, slot-links, slot-place, slot_back, slot_front, weave-nothing}
+use Rattle.tree_shrink.proofs.Seams.{Cutout, close-right, cutout, item_back, item_front, right-of, seam-item, slot-links, slot-place, slot_back, slot_front}
+use Rattle.tree_shrink.proofs.Seams.{weave-nothing}
 use Rattle.tree_shrink.specs.Slots.{Flat, Slot, slot_links}
 use Rattle.tree_shrink.specs.Stages.{Aim, Aimed, Entered, Finishing, Heads, Last, Open, Removed, Replacing, Roomy, Shrunk, Target, Way}
 

@@ -1,5 +1,6 @@
 -- Where the item that is to go stands.
-use Rattle.std.proofs.Common.{List, [], ap, append-nil, append_assoc, arith, inl, inr, length, length-append, refl, subst, sym, ℕ, ⊎_elim, ◌++◌, ◌∙◌, ◌∷◌, ◌≡◌, ◌⊎◌}
+use Rattle.std.proofs.Common.{List, [], ap, append-nil, append_assoc, arith, inl, inr, length, length-append, refl, subst, sym, ℕ, ⊎_elim, ◌++◌, ◌∙◌, ◌∷◌}
+use Rattle.std.proofs.Common.{◌≡◌, ◌⊎◌}
 use Rattle.std.specs.Ordering.{ordering_reverse}
 use Rattle.std.specs.Prelude.{None, Option, Some}
 use Rattle.std.specs.declared.cmp.Ordering.{Ordering}

@@ -1,5 +1,6 @@
 -- The gap in a node's links moves up, and a child is taken out.
-use Rattle.std.proofs.Common.{List, [], ap, append_assoc, arith, length, length-append, refl, replicate, subst, suc, sym, zero, ℕ, ◌++◌, ◌+◌, ◌-◌, ◌<◌, ◌∙◌, ◌∷◌, ◌≡◌, ◌≢◌, ◌≤◌}
+use Rattle.std.proofs.Common.{List, [], ap, append_assoc, arith, length, length-append, refl, replicate, subst, suc, sym, zero, ℕ, ◌++◌, ◌+◌, ◌-◌, ◌<◌, ◌∙◌}
+use Rattle.std.proofs.Common.{◌∷◌, ◌≡◌, ◌≢◌, ◌≤◌}
 use Rattle.row_pool.proofs.NewestRef.{tree_of-first}
 use Rattle.row_pool.specs.Changes.{tree_of, with_old_target}
 use Rattle.row_pool.specs.SeatView.{SeatView}
@@ -136,9 +137,6 @@ leaf-closes v row i n leaf zero kind us ds zss free is p o at many =
     subst (OwnsNode v row kind n) (ap (λ l. us ++ l) ((λ i. nil ∷ (e i ++ replicate free nil)) ∙ nils-turn (length ds) (replicate free nil)
     ∙ (λ i. sym e i ++ nil ∷ replicate free nil))) o
 leaf-closes v row i n leaf (suc h) kind us ds zss free is p o at many = absurd (leaf kind n (us ++ nil ∷ (ds ++ replicate free nil)) o is)
-
-pub inner-closes : (v w : SeatView) (row i n : ℕ) → Closes v w row (33 + i) (n - 1 - i) → ClosesChildren v w row i n
-inner-closes v w row i n f h kind us ds zss free is p o at many = f kind n us ds (replicate free nil) o at many
 
 pub children-close : (v : SeatView) (row i n : ℕ) → CanCloseChildren v row i n → CanClose v row (33 + i) (n - 1 - i)
 children-close v row i n (h, kind, us, ds, zss, free, is, p, o, at, many, low, most, few) =

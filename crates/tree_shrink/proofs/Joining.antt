@@ -1,5 +1,6 @@
 -- Two nodes of 15 items and the item between them become one.
-use Rattle.std.proofs.Common.{List, [], ap, append-nil, append_assoc, arith, length, length-append, refl, replicate, subst, suc, sym, zero, ℕ, ◌++◌, ◌∙◌, ◌∷◌, ◌≡◌, ◌≢◌, ◌≤◌}
+use Rattle.std.proofs.Common.{List, [], ap, append-nil, append_assoc, arith, length, length-append, refl, replicate, subst, suc, sym, zero, ℕ, ◌++◌, ◌∙◌}
+use Rattle.std.proofs.Common.{◌∷◌, ◌≡◌, ◌≢◌, ◌≤◌}
 use Rattle.row_pool.specs.SeatView.{SeatView}
 use Rattle.row_pool.specs.Trees.{Tree, depth, nil}
 use Rattle.latch_item.specs.Items.{IsLatch}
@@ -83,10 +84,6 @@ left-two t m is js ks = ap (λ l. (t ∷ (is ++ m ∷ [])) ++ l) (sym (append_as
 
 pub two-long : (t m : Tree) (is js ks : List Tree) → length is ≡ 15 → length js ≡ 15 → length ks ≡ 16 → length ((t ∷ (is ++ m ∷ [])) ++ (js ++ ks)) ≡ 48
 two-long t m is js ks a b c = simp length-append (omega arith)
-
-pub right-two : (t : Tree) (ks : List Tree) → (t ∷ []) ++ (replicate 15 nil ++ (replicate 16 nil ++ (ks ++ replicate 16 nil))) ≡ (t ∷ replicate 31 nil) ++
-    (ks ++ replicate 16 nil)
-right-two t ks = refl
 
 pub both-joined : (h kind sort : ℕ) (us vs xs ys : List Tree) (t m : Tree) (a : Fifteen h kind us xs) (b : Fifteen h sort vs ys) → IsLatch m
     → IsTop t (xs ++ m ∷ ys) → Node h kind 31 (((t ∷ (a.its ++ m ∷ [])) ++ (b.its ++ a.ks)) ++ (b.ks ++ [])) (xs ++ m ∷ ys)

@@ -1,5 +1,6 @@
 -- An item and the child beside it go from one node to another.
-use Rattle.std.proofs.Common.{Bool, List, [], ap, append_assoc, arith, false, length, not, refl, subst, suc, sym, true, zero, ℕ, ⊎_elim, ◌++◌, ◌+◌, ◌-◌, ◌<◌, ◌^◌, ◌∙◌, ◌∷◌, ◌≡◌, ◌≢◌, ◌≤◌, ◌⊎◌}
+use Rattle.std.proofs.Common.{Bool, List, [], ap, append_assoc, arith, false, length, not, refl, subst, suc, sym, true, zero, ℕ, ⊎_elim, ◌++◌, ◌+◌, ◌-◌, ◌<◌}
+use Rattle.std.proofs.Common.{◌^◌, ◌∙◌, ◌∷◌, ◌≡◌, ◌≢◌, ◌≤◌, ◌⊎◌}
 use Rattle.std.specs.Ordering.{is_lt}
 use Rattle.std.specs.Prelude.{IsFalse}
 use Rattle.std.specs.declared.cmp.Ordering.{Ordering}
@@ -130,7 +131,8 @@ pub lent-first-kid : {h kind n : ℕ} {v w : SeatView} {row kid : ℕ} {us xs : 
 lent-first-kid {h} {kind} {n} {v} {w} {row} {kid} q o f =
     let p = q.pair in
     f kind n (kid_front p.seam p.top p.s) (p.stays ∷ kid_back p.seam) p.goes nil v.refs
-    (subst (OwnsNode v row kind n) (q.links ∙ seam-kid h n p.top p.s p.goes p.stays p.ps p.qs 0 p.seam) o) (kid-place h n p.top p.s p.ps p.qs 0 p.seam) refl refl
+    (subst (OwnsNode v row kind n) (q.links ∙ seam-kid h n p.top p.s p.goes p.stays p.ps p.qs 0 p.seam) o) (kid-place h n p.top p.s p.ps p.qs 0 p.seam) refl
+    refl
 
 pub lent-first-closed : {h kind n : ℕ} {v w : SeatView} {row : ℕ} {us xs : List Tree} (q : FirstOut h kind n us xs)
     → OwnsNode v row kind n (kid_front q.pair.seam q.pair.top q.pair.s ++ nil ∷ ((q.pair.stays ∷ []) ++ kid_back q.pair.seam)) → Closes v w row 32 1
@@ -205,7 +207,8 @@ module _ {v b d : SeatView} {row kind n : ℕ} {us : List Tree} where
       spends-join 0 0 (row ∷ []) (row ∷ []) (row ∷ []) rs v b d e e s (spends-others b d row kind n us e [] s.left o others s.chain)
 
 -- the number of items was read
-pub read-node : (h : ℕ) (xs : List Tree) {kind n m : ℕ} {v w : SeatState} {row : ℕ} {us : List Tree} → w ≡ v → m ≡ n → OwnsNode v.view row kind n us → Node h kind n us xs
+pub read-node : (h : ℕ) (xs : List Tree) {kind n m : ℕ} {v w : SeatState} {row : ℕ} {us : List Tree} → w ≡ v → m ≡ n → OwnsNode v.view row kind n us
+    → Node h kind n us xs
     → OwnsNode w.view row kind m us × Node h kind m us xs
 read-node h xs {kind} {n} {m} {v} {w} {row} {us} e k o nd =
     (subst (λ (z : SeatState × ℕ). OwnsNode z.0.view row kind z.1 us) (λ i. (sym e i, sym k i)) o, subst (λ k. Node h kind k us xs) (sym k) nd)

@@ -2,7 +2,7 @@
 use Rattle.std.proofs.Common.{List, ap, append_assoc, arith, length, length-append, refl, subst, sym, ℕ, ◌++◌, ◌-◌, ◌<◌, ◌∙◌, ◌∷◌, ◌≡◌, ◌≢◌}
 use Rattle.row_pool.specs.SeatView.{SeatView}
 use Rattle.row_pool.specs.Trees.{Tree, nil, tree_word}
-use Rattle.latch_item.specs.Items.{IsLatch, part}
+use Rattle.latch_item.specs.Items.{IsLatch}
 use Rattle.latch_item.specs.Shape.{IsTop, Node, weave}
 use Rattle.interval_tree.proofs.Cutting.{node-body, node-of}
 use Rattle.interval_tree.proofs.Greatest.{node-top}

@@ -1,5 +1,6 @@
 -- Lists around a child that gets more.
-use Rattle.std.proofs.Common.{List, [], ap, append-nil, append_assoc, arith, length, refl, subst, suc, sym, ℕ, ◌++◌, ◌+◌, ◌-◌, ◌<◌, ◌^◌, ◌∙◌, ◌∷◌, ◌≡◌, ◌≢◌, ◌≤◌}
+use Rattle.std.proofs.Common.{List, [], ap, append-nil, append_assoc, arith, length, refl, subst, suc, sym, ℕ, ◌++◌, ◌+◌, ◌-◌, ◌<◌, ◌^◌, ◌∙◌, ◌∷◌, ◌≡◌, ◌≢◌}
+use Rattle.std.proofs.Common.{◌≤◌}
 use Rattle.row_pool.specs.Chains.{IsChain}
 use Rattle.row_pool.specs.Changes.{with_old_target}
 use Rattle.row_pool.specs.SeatView.{SeatView}
@@ -12,7 +13,8 @@ use Rattle.interval_tree.proofs.Rows.{back-cons}
 use Rattle.interval_tree.specs.Held.{OthersStand, OwnsNode, Spends}
 use Rattle.interval_tree.specs.Listings.{Part}
 use Rattle.interval_tree.specs.Steps.{CanLink, CanSwap, Links, Swaps}
-use Rattle.tree_shrink.proofs.Bench.{Bench, Owned, bench-apart, bench-call, bench-links, bench-more, bench-start, bench-step, bench-third, bench-turn, node_at, two-apart}
+use Rattle.tree_shrink.proofs.Bench.{Bench, Owned, bench-apart, bench-call, bench-links, bench-more, bench-start, bench-step, bench-third, bench-turn}
+use Rattle.tree_shrink.proofs.Bench.{node_at, two-apart}
 use Rattle.tree_shrink.proofs.Lending.{old-long}
 use Rattle.tree_shrink.proofs.Seams.{item_back, item_front, kid-place, kid_back, kid_front, next-place, seam-item, seam-kid, seam-next}
 use Rattle.tree_shrink.specs.Slots.{Leftward, Rightward, Seam, Slot, cut_links, seam_links, slot_links}
@@ -40,39 +42,54 @@ pub roomy : (h : ℕ) (v w : SeatView) (row n child j : ℕ) (xs ps ys qs rest :
     (ps2 ys2 qs2 front back : List Tree) (slot : Slot (suc h) m ps2 qs2 k) (sort count : ℕ) (below : List Tree)
     → ps ≡ ps2 ++ front → ys2 ≡ front ++ (ys ++ back) → qs ≡ back ++ qs2 → OwnsNode w row 3 m (slot_links slot o.top nil) → goes ≢ row
     → OwnsNode w goes sort count below → Node h sort count below ys2 → 16 ≤ count → w.refs ≡ rest → Roomy h w row m goes k xs ps ys qs rest
-roomy h v w row n child j xs ps ys qs rest o m goes k ps2 ys2 qs2 front back slot sort count below before wider behind owns apart owns_child node room refs = record {
-  n = m;
-  ps2 = ps2;
-  ys2 = ys2;
-  qs2 = qs2;
-  front = front;
-  back = back;
-  before = before;
-  wider = wider;
-  behind = behind;
-  state = record {
-    top = o.top;
-    slot = slot;
-    owns = owns;
-    greatest = o.greatest;
-    list = all-stays xs ps ys qs ps2 ys2 qs2 front back o.list before wider behind;
-    apart = apart;
-    sort = sort;
-    count = count;
-    below = below;
-    owns_child = owns_child;
-    node = node;
-    least = (omega arith);
-    refs = refs;
-    few = o.few;
-  };
-  room = room;
-  many = (omega arith);
-}
+roomy h v w row n child j xs ps ys qs rest o m goes k ps2 ys2 qs2 front back slot sort count below before wider behind owns apart owns_child node room refs =
+    record {
+      n = m;
+      ps2 = ps2;
+      ys2 = ys2;
+      qs2 = qs2;
+      front = front;
+      back = back;
+      before = before;
+      wider = wider;
+      behind = behind;
+      state = record {
+        top = o.top;
+        slot = slot;
+        owns = owns;
+        greatest = o.greatest;
+        list = all-stays xs ps ys qs ps2 ys2 qs2 front back o.list before wider behind;
+        apart = apart;
+        sort = sort;
+        count = count;
+        below = below;
+        owns_child = owns_child;
+        node = node;
+        least = (omega arith);
+        refs = refs;
+        few = o.few;
+      };
+      room = room;
+      many = (omega arith);
+    }
 
 pub roomy-less : (h : ℕ) (w : SeatView) (row m k child j : ℕ) (xs ps ys qs rest : List Tree) → k ≤ m → Roomy h w row m child j xs ps ys qs rest
     → Roomy h w row k child j xs ps ys qs rest
-roomy-less h w row m k child j xs ps ys qs rest le r = record { n = r.n; ps2 = r.ps2; ys2 = r.ys2; qs2 = r.qs2; front = r.front; back = r.back; before = r.before; wider = r.wider; behind = r.behind; state = r.state; room = r.room; many = (let a = r.many in omega arith) }
+roomy-less h w row m k child j xs ps ys qs rest le r = record {
+  n = r.n;
+  ps2 = r.ps2;
+  ys2 = r.ys2;
+  qs2 = r.qs2;
+  front = r.front;
+  back = r.back;
+  before =
+      r.before;
+  wider = r.wider;
+  behind = r.behind;
+  state = r.state;
+  room = r.room;
+  many = (let a = r.many in omega arith);
+}
 
 -- a child that has enough
 pub roomy-now : (h : ℕ) (v : SeatView) (row n child j : ℕ) (xs ps ys qs rest : List Tree) (o : Open h v row n child j xs ps ys qs rest) → 16 ≤ o.count
@@ -105,7 +122,8 @@ module _ {h n i : ℕ} {ls qs : List Tree} (sm : Seam (suc h) n ls qs i) {v : Se
       → Bench v X rs 1 x c (node_at row 3 n (front ++ nil ∷ back) ∷ node_at sib ks kn ws ∷ node_at child sort count below ∷ []) R
       → SpendsAll 0 (sib ∷ []) (sib ∷ []) x y c d → OwnsNode y sib ks (kn - 1) us → y.refs ≡ S
       → front ++ nil ∷ back ≡ item_front sm top ++ s ∷ item_back sm nil nil
-      → Bench v X rs 1 y d (node_at row 3 n (item_front sm top ++ s ∷ item_back sm nil nil) ∷ node_at sib ks (kn - 1) us ∷ node_at child sort count below ∷ []) S
+      → Bench v X rs 1 y d (node_at row 3 n (item_front sm top ++ s ∷ item_back sm nil nil) ∷ node_at sib ks (kn - 1) us ∷ node_at child sort count below ∷
+      []) S
   bench-lent s front back {x} {y} {c} {d} {ks} {kn} {ws} {us} {R} {S} b call owns refs links = bench-links links (bench-turn (bench-more 1 (omega arith)
       (bench-call (node_at sib ks kn ws ∷ []) (node_at sib ks (kn - 1) us ∷ []) (node_at row 3 n (front ++ nil ∷ back) ∷ node_at child sort count below ∷ [])
       (bench-turn b) call (owns, tt) (refl, tt) refs)))
@@ -157,7 +175,8 @@ pub record Relinked (h : ℕ) (v : SeatView) (X rs : List ℕ) (w : SeatView) (c
   pub kid : Kid (Node h) tree l
   pub bench : Bench v X rs 1 w c (node_at row 3 n (front ++ tree ∷ back) ∷ node_at child kind k ws ∷ []) R
 
-pub bench-linked : (h place : ℕ) (front back : List Tree) {v x w : SeatView} {X rs : List ℕ} {c : Chain} {row n sib child ks kn kind k : ℕ} {us ws R l : List Tree}
+pub bench-linked : (h place : ℕ) (front back : List Tree) {v x w : SeatView} {X rs : List ℕ} {c : Chain} {row n sib child ks kn kind k : ℕ} {us ws R l : List
+    Tree}
     → Bench v X rs 1 x c (node_at row 3 n (front ++ nil ∷ back) ∷ node_at sib ks kn us ∷ node_at child kind k ws ∷ []) R → length front ≡ place
     → Node h ks kn us l → 15 ≤ kn → ((qs : List ℕ) (c : Chain) → IsChain x c qs → Spends 0 (row ∷ sib ∷ []) (row ∷ []) qs x w c)
     → Links x w row place sib → Relinked h v X rs w c row n child kind k front back ws R l
@@ -166,7 +185,8 @@ bench-linked h place front back {v} {x} {w} {X} {rs} {c} {row} {n} {sib} {child}
     record {
       tree = z.tree;
       kid = kid-row-of h z.tree sib ks kn us l z.is least node;
-      bench = bench-more 1 (omega arith) (bench-call (node_at row 3 n (front ++ nil ∷ back) ∷ node_at sib ks kn us ∷ []) (node_at row 3 n (front ++ z.tree ∷ back) ∷ [])
+      bench = bench-more 1 (omega arith) (bench-call (node_at row 3 n (front ++ nil ∷ back) ∷ node_at sib ks kn us ∷ []) (node_at row 3 n (front ++ z.tree ∷
+          back) ∷ [])
           (node_at child kind k ws ∷ []) b (λ qs g. call qs c g) (z.owns, tt) (refl, tt) (z.refs ∙ b.refs));
     }
 
@@ -241,16 +261,18 @@ pub item-next : {h n i : ℕ} {ls qs : List Tree} (sm : Seam (suc h) n ls qs i) 
 item-next {h} {n} {i} {ls} {qs} sm top s = sym (seam-next (suc h) n top s nil nil ls qs i sm) ∙ seam-item (suc h) n top s nil nil ls qs i sm
 
 -- what the child is to get
-pub child-gains : {h n : ℕ} {v x : SeatView} {c : Chain} {X rs : List ℕ} {row child j sib ks kn item kid : ℕ} {xs ps ys qs R l us links : List Tree} {s u : Tree}
+pub child-gains : {h n : ℕ} {v x : SeatView} {c : Chain} {X rs : List ℕ} {row child j sib ks kn item kid : ℕ} {xs ps ys qs R l us links : List Tree} {s u :
+    Tree}
     (o : Open h v row n child j xs ps ys qs R) → o.count ≡ 15
     → Bench v X rs 1 x c (node_at child o.sort o.count o.below ∷ node_at row 3 n links ∷ node_at sib ks kn us ∷ []) (s ∷ with_old_target u R)
     → IsLatch s → Part h u l → item ≡ tree_word s → tree_word u ≡ kid → Gains h x child o.sort o.below ys l s u item kid R
-child-gains {h} {n} {v} {x} {c} {X} {rs} {row} {child} {j} {sib} {ks} {kn} {item} {kid} {xs} {ps} {ys} {qs} {R} {l} {us} {links} {s} {u} o poor b fits part is named = record {
-  owns = subst (λ k. OwnsNode x child o.sort k o.below) poor b.owns.0;
-  whole = subst (λ k. Node h o.sort k o.below ys) poor o.node;
-  carried = record { fits = fits; part = part; item_is = sym is; kid_is = named; refs = b.refs };
-  few = (let a = o.few in omega arith);
-}
+child-gains {h} {n} {v} {x} {c} {X} {rs} {row} {child} {j} {sib} {ks} {kn} {item} {kid} {xs} {ps} {ys} {qs} {R} {l} {us} {links} {s} {u} o poor b fits part
+    is named = record {
+      owns = subst (λ k. OwnsNode x child o.sort k o.below) poor b.owns.0;
+      whole = subst (λ k. Node h o.sort k o.below ys) poor o.node;
+      carried = record { fits = fits; part = part; item_is = sym is; kid_is = named; refs = b.refs };
+      few = (let a = o.few in omega arith);
+    }
 
 -- ---- the stages of a merge
 -- the item between the two is out
@@ -281,7 +303,8 @@ module _ {h n i : ℕ} {ls qs : List Tree} (sm : Seam (suc h) n ls qs i) (front 
   )
 
 -- two nodes of 15 items, the child and a neighbour, in this order or the other
-pub joins-right : {h n : ℕ} {v x : SeatView} {c : Chain} {X rs : List ℕ} {row child j sib item : ℕ} {xs ps ys qs R l : List Tree} {ns : List Owned} {kid s : Tree}
+pub joins-right : {h n : ℕ} {v x : SeatView} {c : Chain} {X rs : List ℕ} {row child j sib item : ℕ} {xs ps ys qs R l : List Tree} {ns : List Owned} {kid s :
+    Tree}
     (o : Open h v row n child j xs ps ys qs R) (part : Kid (Node h) kid l) → o.count ≡ 15 → word kid 2 ≡ 15
     → Bench v X rs 1 x c (node_at child o.sort o.count o.below ∷ node_at sib (word kid 1) (word kid 2) (children kid) ∷ ns) (s ∷ R) → IsLatch s
     → item ≡ tree_word s → Joins h x child sib item o.sort (word kid 1) o.below (children kid) ys l s R
@@ -297,7 +320,8 @@ joins-right {h} {n} {v} {x} {c} {X} {rs} {row} {child} {j} {sib} {item} {xs} {ps
   few = (let a = o.few in omega arith);
 }
 
-pub joins-left : {h n : ℕ} {v x : SeatView} {c : Chain} {X rs : List ℕ} {row child j sib item : ℕ} {xs ps ys qs R l : List Tree} {ns : List Owned} {kid s : Tree}
+pub joins-left : {h n : ℕ} {v x : SeatView} {c : Chain} {X rs : List ℕ} {row child j sib item : ℕ} {xs ps ys qs R l : List Tree} {ns : List Owned} {kid s :
+    Tree}
     (o : Open h v row n child j xs ps ys qs R) (part : Kid (Node h) kid l) → o.count ≡ 15 → word kid 2 ≡ 15
     → Bench v X rs 1 x c (node_at sib (word kid 1) (word kid 2) (children kid) ∷ node_at child o.sort o.count o.below ∷ ns) (s ∷ R) → IsLatch s
     → item ≡ tree_word s → Joins h x sib child item (word kid 1) o.sort (children kid) o.below l ys s R
@@ -315,7 +339,8 @@ joins-left {h} {n} {v} {x} {c} {X} {rs} {row} {child} {j} {sib} {item} {xs} {ps}
 
 -- they are one
 pub bench-joined : {v x y : SeatView} {c d : Chain} {X rs : List ℕ} {p q kind k ks kn : ℕ} {us ws vs R S : List Tree} {a : Owned}
-    → Bench v X rs 1 x c (node_at p kind k us ∷ node_at q ks kn ws ∷ a ∷ []) R → SpendsAll 0 (p ∷ q ∷ []) (p ∷ []) x y c d → OwnsNode y p kind 31 vs → y.refs ≡ S
+    → Bench v X rs 1 x c (node_at p kind k us ∷ node_at q ks kn ws ∷ a ∷ []) R → SpendsAll 0 (p ∷ q ∷ []) (p ∷ []) x y c d → OwnsNode y p kind 31 vs
+    → y.refs ≡ S
     → Bench v X rs 1 y d (a ∷ node_at p kind 31 vs ∷ []) S
 bench-joined {v} {x} {y} {c} {d} {X} {rs} {p} {q} {kind} {k} {ks} {kn} {us} {ws} {vs} {R} {S} {a} b call owns refs = bench-turn (bench-more 1 (omega arith)
     (bench-call (node_at p kind k us ∷ node_at q ks kn ws ∷ []) (node_at p kind 31 vs ∷ []) (a ∷ []) b call (owns, tt) (refl, tt) refs))

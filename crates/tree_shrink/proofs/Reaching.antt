@@ -1,5 +1,7 @@
 -- The seat reaches each item below a root that it owns, and what a root without items leaves.
-use Rattle.std.proofs.Common.{List, [], ap, arith, inl, inr, length, length-append, refl, replicate, subst, suc, sym, zero, ℕ, ⊎_elim, ◌++◌, ◌+◌, ◌-◌, ◌<◌, ◌^◌, ◌∙◌, ◌∷◌, ◌≡◌, ◌≤◌, ◌⊎◌}
+use Rattle.std.proofs.Common.{List, [], ap, arith, inl, inr, length, length-append, refl, replicate, subst, suc, sym}
+use Rattle.std.proofs.Common.{zero, ℕ, ⊎_elim, ◌++◌, ◌+◌, ◌-◌, ◌<◌, ◌^◌, ◌∙◌, ◌∷◌, ◌≡◌, ◌≤◌, ◌⊎◌}
+use Rattle.std.proofs.lemmas.Bool.Decides.{eqb_tells}
 use Rattle.std.specs.Prelude.{Some}
 use lib.ListN.{get_elem?}
 use mathlib.Core.Option.{some}
@@ -145,10 +147,6 @@ only-one it [] e a = absurd a
 only-one it (x ∷ y ∷ xs) e a = absurd (omega arith)
 only-one it (x ∷ []) e a = ⊎_elim (λ (p : x ≡ it). record { front = []; back = []; old = ap (λ z. z ∷ []) p; new = refl }) (λ (p : Among it []). absurd p) a
 
-pub removed-long : (it : Tree) (xs ys : List Tree) → Removed it xs ys → length xs ≡ length ys + 1
-removed-long it xs ys r = let a = ap length r.old in let b = ap length r.new in let d = length-append r.front r.back in let e = length-append r.front
-    (it ∷ r.back) in omega arith
-
 -- ---- the item of a node that is named
 pub named-item : (v : SeatView) (h row kind n item : ℕ) (us xs : List Tree) (it : Tree) → OwnsNode v row kind n us → Node h kind n us xs
     → (tree_word it ≡ suc item) × Among it xs → ReachesItem v it item
@@ -207,3 +205,9 @@ left-of-root h v b d w root item node kind n gone us xs it l a s stood refs = re
   refs = refs;
   few = (let p = without_tree-length root v.refs in let q = l.few in omega arith);
 }
+
+-- a reference less
+pub one-less : (r : ℕ) (ts : List Tree) → tree_word (tree_of r ts) ≡ suc r → suc (length (without_tree r ts)) ≡ length ts
+one-less r [] h = absurd (omega arith)
+one-less r (t ∷ ts) h = ⊎_elim (λ b. rw b.0 refl) (λ b. let e : tree_word (tree_of r ts) ≡ suc r = rw b.0 at h in let k = one-less r ts e in rw b.0 (ap suc k))
+    (eqb_tells (tree_word t) (suc r))

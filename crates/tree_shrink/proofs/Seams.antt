@@ -1,7 +1,8 @@
 -- Nodes with a place left open: how they come about, how they turn into one another, and how they end.
-use Rattle.std.proofs.Common.{List, [], ap, append_assoc, arith, length, length-append, refl, replicate, subst, suc, sym, zero, ℕ, ◌++◌, ◌+◌, ◌-◌, ◌<◌, ◌∙◌, ◌∷◌, ◌≡◌}
+use Rattle.std.proofs.Common.{List, [], ap, append_assoc, arith, length, length-append, refl, replicate, subst, suc, sym, zero, ℕ, ◌++◌, ◌+◌, ◌-◌, ◌<◌, ◌∙◌}
+use Rattle.std.proofs.Common.{◌∷◌, ◌≡◌}
 use Rattle.std.proofs.lemmas.List.{length-replicate}
-use Rattle.row_pool.specs.Trees.{Tree, children, nil}
+use Rattle.row_pool.specs.Trees.{Tree, nil}
 use Rattle.latch_item.specs.Items.{IsLatch}
 use Rattle.latch_item.specs.Shape.{Each, Node, Pairs, weave}
 use Rattle.interval_tree.proofs.Holes.{cut-pairs, pairs-join, pairs-length}

@@ -44,7 +44,8 @@ CanCut v row i n = (h kind : ℕ) × (ps qs : List Tree) × (o : Seam h n ps qs 
 -- it went, and is the newest reference
 abbrev pub Cuts : SeatView → SeatView → ℕ → ℕ → ℕ → ℕ → Type 0
 Cuts v w row i n result = (h kind : ℕ) (ps qs : List Tree) (o : Seam h n ps qs i) (top s x : Tree) → kind ≡ kind_at h
-    → OwnsNode v row kind n (seam_links o top s x nil) → 0 < tree_word s → (result ≡ tree_word s) × OwnsNode w row kind (n - 1) (cut_links o top x) × (w.refs ≡ s ∷ v.refs)
+    → OwnsNode v row kind n (seam_links o top s x nil) → 0 < tree_word s → (result ≡ tree_word s) × OwnsNode w row kind (n - 1) (cut_links o top x)
+    × (w.refs ≡ s ∷ v.refs)
 
 -- the links of the children behind an item that is out can close up
 abbrev pub CanCloseChildren : SeatView → ℕ → ℕ → ℕ → Type 0

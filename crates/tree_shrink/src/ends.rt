@@ -5,7 +5,8 @@ ghost use Rattle.row_pool.specs.Chains.{IsChain};
 ghost use Rattle.latch_item.specs.Shape.{Among};
 ghost use Rattle.interval_tree.specs.States.{ReachesItem};
 ghost use Rattle.tree_shrink.specs.Stages.{Carried};
-ghost use Rattle.tree_shrink.specs.Steps.{SpendsAll, CanRaise, RaisesBoth, CanLower, LowersBoth, CanLend, LendsLast, LendsFirst, CanGain, GainsFirst, GainsLast};
+ghost use Rattle.tree_shrink.specs.Steps.{SpendsAll, CanRaise, RaisesBoth, CanLower, LowersBoth, CanLend, LendsLast, LendsFirst, CanGain, GainsFirst};
+ghost use Rattle.tree_shrink.specs.Steps.{GainsLast};
 
 use crate::links::{close_gap, cut_item};
 use interval_tree::workshop::{

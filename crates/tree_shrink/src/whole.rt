@@ -107,6 +107,7 @@ fn remove_some(
         → (ys : List Row) × Removed it xs ys × RefersTo seat.new.view result.0 result.1 ys
         × (beside result.0 seat.new.view.refs ≡ without_tree root seat.old.view.refs) }
     ensures empty { result.0 ≡ None → result.1 ≡ 0 }
+    ensures few { length seat.new.view.refs ≤ length seat.old.view.refs }
     ensures spends { SpendsAll 5 [] [] seat.old.view seat.new.view chain.old chain.new }
 {
     if len == 1 {
@@ -128,6 +129,7 @@ pub fn remove(tree: &mut Tree, rows: &Rows, seat: &mut RowSeat, item: u32, chain
     ensures tree { (xs : List Row) (it : Row) → Keeps seat.old.view tree.old xs → Among it xs → tree_word it ≡ suc item
         → (ys : List Row) × Removed it xs ys × Keeps seat.new.view tree.new ys }
     ensures references { other_refs tree.new seat.new.view.refs ≡ other_refs tree.old seat.old.view.refs }
+    ensures few { length seat.new.view.refs ≤ length seat.old.view.refs }
     ensures spends { SpendsAll 5 [] [] seat.old.view seat.new.view chain.old chain.new }
 {
     if let Some(root) = tree.root() {

@@ -1,7 +1,5 @@
-use Rattle.std.proofs.Common.{List, [], ap, arith, false, length, refl, subst, suc, sym, true, zero, ℕ, ◌*◌, ◌++◌, ◌+◌, ◌-◌, ◌<◌, ◌^◌, ◌∙◌, ◌∷◌, ◌≡◌, ◌≢◌, ◌≤◌}
+use Rattle.std.proofs.Common.{List, [], ap, arith, length, refl, subst, suc, sym, zero, ℕ, ◌*◌, ◌++◌, ◌+◌, ◌-◌, ◌<◌, ◌^◌, ◌∙◌, ◌∷◌, ◌≡◌, ◌≢◌, ◌≤◌}
 use Rattle.std.specs.Prelude.{IsFalse, IsTrue, None, Option}
-use Rattle.row_pool.proofs.Allowed.{owns}
-use Rattle.row_pool.proofs.Joins.{seat}
 use Rattle.row_pool.specs.Chains.{IsChain}
 use Rattle.row_pool.specs.SeatView.{SeatView}
 use Rattle.row_pool.specs.Trees.{Tree, nil, tree_word}
@@ -13,13 +11,14 @@ use Rattle.interval_tree.proofs.Frames.{spends-join, spends-more}
 use Rattle.interval_tree.proofs.Linking.{room-less}
 use Rattle.interval_tree.specs.Held.{OwnsNode}
 use Rattle.tree_shrink.proofs.Bench.{Bench, bench-call, bench-chain, bench-room, bench-start, bench-turn, node_at, two-apart}
-use Rattle.tree_shrink.proofs.Descending.{Ending, aim-child, ending, entered, finishing, replacing}
+use Rattle.tree_shrink.proofs.Descending.{Ending, aim-child, ending, finishing, replacing}
 use Rattle.tree_shrink.proofs.Mending.{open-place}
 use Rattle.tree_shrink.specs.Slots.{slot_links}
 use Rattle.tree_shrink.specs.Stages.{Aim, Aimed, Entered, Finishing, Heads, Open, Removed, Replacing, Shrunk, Stood, Target}
 use Rattle.tree_shrink.specs.Steps.{SpendsAll}
 use Rattle.tree_shrink.proofs.descent.+remove_owned.Goals as goal
-use Rattle.tree_shrink.proofs.descent.+remove_owned.Goals.{After-way-i, After-enter-goes, After-is_next, After-remove_owned-last, After-remove_owned-item, After-take_over, After-finish}
+use Rattle.tree_shrink.proofs.descent.+remove_owned.Goals.{After-way-i, After-enter-goes, After-is_next, After-remove_owned-last, After-remove_owned-item}
+use Rattle.tree_shrink.proofs.descent.+remove_owned.Goals.{After-take_over, After-finish}
 
 -- the level is not 0
 above : (h : ℕ) → h ≢ 0 → h ≡ suc (h - 1)
@@ -112,7 +111,8 @@ asked t c ne kind n us xs it R a rs g =
       e2,
       bench-turn (bench-call (node_at row kind n us ∷ []) (node_at row 3 e2.n (slot_links o.slot o.top nil) ∷ node_at child o.sort o.count o.below ∷ []) []
           (bench-start v c.args.chain.now rs (node_at row kind n us ∷ []) R g (a.owns, tt) (refl, tt) a.refs)
-          (subst (λ w. SpendsAll 2 (row ∷ []) (row ∷ child ∷ []) v w c.args.chain.now c.enter-goes.new.chain) (sym c.is_next.ensures.same.1) c.enter-goes.ensures.spends)
+          (subst (λ w. SpendsAll 2 (row ∷ []) (row ∷ child ∷ []) v w c.args.chain.now c.enter-goes.new.chain) (sym c.is_next.ensures.same.1)
+          c.enter-goes.ensures.spends)
           (o.owns, (o.owns_child, tt)) (two-apart row child (λ z. o.apart (sym z))) o.refs),
     )
 

@@ -1,7 +1,5 @@
 use Rattle.std.proofs.Common.{List, [], ap, arith, length, subst, suc, sym, ℕ, ◌++◌, ◌∙◌, ◌∷◌, ◌≡◌, ◌≢◌}
 use Rattle.std.specs.Prelude.{Option}
-use Rattle.row_pool.proofs.Allowed.{owns}
-use Rattle.row_pool.proofs.Joins.{seat}
 use Rattle.row_pool.specs.SeatView.{SeatView}
 use Rattle.row_pool.specs.Trees.{Tree}
 use Rattle.latch_item.specs.Shape.{IsTop}
@@ -10,8 +8,6 @@ use Rattle.interval_tree.proofs.Linking.{room-after, room-less}
 use Rattle.interval_tree.specs.Held.{HasRoom, OwnsNode}
 use Rattle.tree_shrink.proofs.Borders.{flat-top}
 use Rattle.tree_shrink.proofs.Descending.{Opens, entered, opened, opens, some-item}
-use Rattle.tree_shrink.proofs.Gaps.{taken}
-use Rattle.tree_shrink.proofs.Mending.{roomy}
 use Rattle.tree_shrink.proofs.Seams.{flat-of, slot_back, slot_front}
 use Rattle.tree_shrink.specs.Slots.{Flat}
 use Rattle.tree_shrink.specs.Stages.{Aimed, Open, Way}
@@ -79,7 +75,8 @@ out c h kind n us xs it R up a g =
     let (o, oc, ne) = c.take_child-child.ensures.taken h kind n (slot_front q.cut.slot g.f.top) (slot_back q.cut.slot) q.cut.child q.cut.ys
     (subst (λ v. OwnsNode v c.args.row kind n (slot_front q.cut.slot g.f.top ++ q.cut.child ∷ slot_back q.cut.slot)) (sym c.way-i.ensures.same.1)
     (subst (OwnsNode c.args.seat.now.view c.args.row kind n) q.links a.owns)) q.place q.kid in
-    opened h c.take_child-child.new.seat.view c.args.row kind n c.take_child-child.result c.way-i.result us xs R g.is g.js g.f q (raised up a).node g.top o oc ne
+    opened h c.take_child-child.new.seat.view c.args.row kind n c.take_child-child.result c.way-i.result us xs R g.is g.js g.f q (raised up a).node g.top o
+    oc ne
     (c.take_child-child.ensures.same.1 ∙ ap (λ (v : SeatView). v.refs) c.way-i.ensures.same.1 ∙ a.refs) a.few
 
 pub roomy_below-requires-clause-state : goal.roomy_below-requires-clause-state
@@ -97,7 +94,8 @@ until-out c = subst (λ v. SpendsAll 1 (c.args.row ∷ []) (c.args.row ∷ c.tak
 
 pub roomy_below-requires-clause-room : goal.roomy_below-requires-clause-room
 roomy_below-requires-clause-room c = room-after 1 1 (c.args.row ∷ []) (c.args.row ∷ c.take_child-child.result ∷ []) c.args.seat.now.view
-    c.take_child-child.new.seat.view c.args.chain.now c.take_child-child.new.chain (until-out (goal.at.roomy_below-requires-clause-room c).After-take_child-child)
+    c.take_child-child.new.seat.view c.args.chain.now c.take_child-child.new.chain (until-out (goal.at.roomy_below-requires-clause-room
+    c).After-take_child-child)
     c.requires.room
 
 pub returns-clause-entered : goal.returns-clause-entered
@@ -106,7 +104,8 @@ returns-clause-entered c = λ h kind n us xs it R up low a.
     let g = goes at.After-way-i h kind n us xs it R up a in let q = g.out.cut in
     let o = out at.After-take_child-child h kind n us xs it R up a g in
     let (t, among) = some-item h o.sort o.count o.below q.ys o.node in
-    entered h c.roomy_below.new.seat.view c.args.row n n c.roomy_below.result.0 c.roomy_below.result.1 c.way-i.result xs q.ps q.ys q.qs R g.is g.js it c.args.goal
+    entered h c.roomy_below.new.seat.view c.args.row n n c.roomy_below.result.0 c.roomy_below.result.1 c.way-i.result xs q.ps q.ys q.qs R g.is g.js it
+    c.args.goal
     q.slot q.same_left q.same_right t among a.sorted a.aim o.list g.path (omega arith)
     (c.roomy_below.ensures.roomy h n xs q.ps q.ys q.qs R low a.some_items o)
 

@@ -1,6 +1,4 @@
 use Rattle.std.proofs.Common.{List, [], ap, arith, length, refl, replicate, subst, suc, sym, ℕ, ◌++◌, ◌∙◌, ◌∷◌, ◌≡◌}
-use Rattle.row_pool.proofs.Joins.{seat}
-use Rattle.row_pool.proofs.Writes.{linked}
 use Rattle.row_pool.specs.Trees.{Tree, nil}
 use Rattle.interval_tree.proofs.Frames.{spends-join}
 use Rattle.interval_tree.proofs.Linking.{kid-row-of, shallow}

@@ -1,11 +1,9 @@
-use Rattle.std.proofs.Common.{List, ap, arith, false, length, subst, suc, sym, true, ℕ, ⊎_elim, ◌++◌, ◌+◌, ◌<◌, ◌∙◌, ◌∷◌, ◌≡◌, ◌≢◌}
+use Rattle.std.proofs.Common.{List, ap, arith, length, subst, suc, sym, ℕ, ⊎_elim, ◌++◌, ◌+◌, ◌<◌, ◌∙◌, ◌∷◌, ◌≡◌, ◌≢◌}
 use Rattle.std.proofs.lemmas.Bool.{eqb-false, eqb-true}
-use Rattle.row_pool.proofs.Joins.{seat}
 use Rattle.row_pool.specs.SeatState.{SeatState}
 use Rattle.row_pool.specs.SeatView.{SeatView}
 use Rattle.row_pool.specs.Trees.{Tree, nil, tree_word}
 use Rattle.latch_item.specs.Items.{IsLatch}
-use Rattle.interval_tree.proofs.Moving.{one}
 use Rattle.interval_tree.proofs.Rows.{up-link}
 use Rattle.interval_tree.specs.Held.{OwnsNode}
 use Rattle.tree_shrink.proofs.Descending.{end-empty, next-differs, no-heads}
@@ -67,7 +65,8 @@ row_at-at-requires-clause-link c =
       let a = x.fits.here in omega arith,
     )
 
-row-of : (c : After-row_at-at) → (h n : ℕ) (qs : List Tree) → (x : Next h n c.args.i c.args.seat.now.view c.args.row qs) → tree_word x.s ≡ suc c.row_at-at.result
+row-of : (c : After-row_at-at) → (h n : ℕ) (qs : List Tree) → (x : Next h n c.args.i c.args.seat.now.view c.args.row qs)
+    → tree_word x.s ≡ suc c.row_at-at.result
 row-of c h n qs x = c.row_at-at.ensures.row 3 n x.front x.back x.s
     (subst (λ (s : SeatState). OwnsNode s.view c.args.row 3 n (x.front ++ x.s ∷ x.back)) (sym c.count_of-n.ensures.same) x.owns) x.place
 

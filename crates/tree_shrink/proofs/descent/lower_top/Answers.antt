@@ -1,5 +1,4 @@
-use Rattle.std.proofs.Common.{List, [], ap, arith, false, refl, subst, sym, true, ℕ, ◌∙◌, ◌∷◌, ◌≡◌, ◌≢◌, ◌≤◌}
-use Rattle.row_pool.proofs.Joins.{seat}
+use Rattle.std.proofs.Common.{List, [], ap, arith, refl, subst, sym, ℕ, ◌∙◌, ◌∷◌, ◌≡◌, ◌≢◌, ◌≤◌}
 use Rattle.row_pool.specs.SeatState.{SeatState}
 use Rattle.row_pool.specs.Trees.{Tree}
 use Rattle.interval_tree.specs.Held.{OwnsNode}

@@ -1,5 +1,4 @@
 use Rattle.std.proofs.Common.{List, ap, arith, length, replicate, subst, suc, sym, ℕ, ◌++◌, ◌-◌, ◌∙◌, ◌∷◌, ◌≡◌}
-use Rattle.row_pool.proofs.Joins.{seat}
 use Rattle.row_pool.specs.SeatState.{SeatState}
 use Rattle.row_pool.specs.Trees.{Tree, nil}
 use Rattle.latch_item.specs.Shape.{Node}

@@ -1,6 +1,4 @@
 use Rattle.std.proofs.Common.{List, [], ap, arith, length, sym, ℕ, ◌++◌, ◌∙◌, ◌∷◌, ◌≡◌}
-use Rattle.row_pool.proofs.Allowed.{owns}
-use Rattle.row_pool.proofs.Joins.{seat}
 use Rattle.row_pool.specs.Trees.{Tree, nil}
 use Rattle.interval_tree.proofs.Frames.{spends-join, spends-others}
 use Rattle.interval_tree.proofs.Rows.{back-cons}
@@ -25,7 +23,8 @@ swapped : (c : After-swap-item) → (h n : ℕ) (xs ps zs qs : List Tree) (it m 
     × (c.swap-item.new.seat.view.refs ≡ it ∷ R)
 swapped c h n xs ps zs qs it m R p b =
     let z = c.swap-item.ensures.node 3 n b.front b.back it m R b.owns b.place b.refs p.last_is in (
-      replaced-finishing h c.args.seat.now.view c.swap-item.new.seat.view c.args.row n c.args.child c.args.j xs ps zs qs it m c.args.last c.swap-item.result R p b
+      replaced-finishing h c.args.seat.now.view c.swap-item.new.seat.view c.args.row n c.args.child c.args.j xs ps zs qs it m c.args.last c.swap-item.result
+          R p b
           z.1 c.swap-item.ensures.others z.0,
       z.2 ∙ sym (back-cons it R b.fits.row b.fits.here),
     )

@@ -1,7 +1,5 @@
 use Rattle.std.proofs.Common.{List, [], ap, append-nil, arith, length, length-append, refl, replicate, subst, suc, sym, zero, ℕ, ◌++◌, ◌∙◌, ◌∷◌, ◌≡◌, ◌≤◌}
 use Rattle.std.specs.Prelude.{None, Option, Some}
-use Rattle.row_pool.proofs.Allowed.{owns}
-use Rattle.row_pool.proofs.Joins.{seat}
 use Rattle.row_pool.specs.SeatView.{SeatView}
 use Rattle.row_pool.specs.Trees.{Tree, nil, tree_word}
 use Rattle.latch_item.specs.Shape.{Among, Sorted}

@@ -1,13 +1,10 @@
 use Rattle.std.proofs.Common.{List, [], ap, arith, refl, subst, ℕ, ◌++◌, ◌∙◌, ◌∷◌, ◌≡◌}
-use Rattle.row_pool.proofs.Joins.{seat}
 use Rattle.row_pool.specs.Changes.{with_old_target}
 use Rattle.row_pool.specs.SeatView.{SeatView}
 use Rattle.row_pool.specs.Trees.{Tree, nil}
-use Rattle.latch_item.specs.Items.{part}
 use Rattle.latch_item.specs.Shape.{IsTop}
 use Rattle.interval_tree.proofs.Cutting.{node-of}
 use Rattle.interval_tree.proofs.Frames.{others-join}
-use Rattle.interval_tree.proofs.Moving.{one, two}
 use Rattle.interval_tree.proofs.Rows.{back-cons}
 use Rattle.interval_tree.specs.Held.{OwnsNode}
 use Rattle.tree_shrink.proofs.Borders.{FirstIn, first-in, items-around}

@@ -1,9 +1,7 @@
 use Rattle.std.proofs.Common.{List, [], arith, refl, replicate, subst, sym, ℕ, ◌++◌, ◌∙◌, ◌∷◌, ◌≡◌}
-use Rattle.row_pool.proofs.Joins.{seat}
 use Rattle.row_pool.specs.Changes.{with_old_target}
 use Rattle.row_pool.specs.SeatView.{SeatView}
 use Rattle.row_pool.specs.Trees.{Tree, nil}
-use Rattle.latch_item.specs.Items.{part}
 use Rattle.latch_item.specs.Shape.{IsTop}
 use Rattle.interval_tree.proofs.Cutting.{node-of}
 use Rattle.interval_tree.proofs.Frames.{others-join}

@@ -1,5 +1,4 @@
 use Rattle.std.proofs.Common.{List, [], ap, arith, length, refl, ℕ, ◌++◌, ◌-◌, ◌∙◌, ◌∷◌, ◌≡◌, ◌≤◌}
-use Rattle.row_pool.proofs.Joins.{seat}
 use Rattle.row_pool.specs.Changes.{with_old_target}
 use Rattle.row_pool.specs.SeatState.{SeatState}
 use Rattle.row_pool.specs.SeatView.{SeatView}
@@ -7,10 +6,10 @@ use Rattle.row_pool.specs.Trees.{Tree, nil, tree_word}
 use Rattle.latch_item.specs.Shape.{Node}
 use Rattle.interval_tree.proofs.Frames.{others-join, others-same}
 use Rattle.interval_tree.proofs.Fresh.{node-most}
-use Rattle.interval_tree.proofs.Linking.{closed}
 use Rattle.interval_tree.specs.Held.{OthersStand, OwnsNode}
 use Rattle.tree_shrink.proofs.Borders.{FirstOut, first-out}
-use Rattle.tree_shrink.proofs.Lending.{KidOut, chain-after, kid-cuts, kid-lent, kid-lightens, lent-first-can, lent-first-closed, lent-first-kid, old-long, read-node, spends-after}
+use Rattle.tree_shrink.proofs.Lending.{KidOut, chain-after, kid-cuts, kid-lent, kid-lightens, lent-first-can, lent-first-closed, lent-first-kid, old-long}
+use Rattle.tree_shrink.proofs.Lending.{read-node, spends-after}
 use Rattle.tree_shrink.proofs.Seams.{kid-place, kid_back, kid_front}
 use Rattle.tree_shrink.proofs.ends.lend_first.Goals as goal
 use Rattle.tree_shrink.proofs.ends.lend_first.Goals.{After-count_of-n, After-swap-kid, After-close_gap, After-cut_item-item}
@@ -92,7 +91,8 @@ others : (c : After-cut_item-item) → OthersStand c.args.row c.args.seat.now.vi
 others c = others-same c.args.seat.now.view c.count_of-n.new.seat.view c.cut_item-item.new.seat.view c.args.row
     (ap (λ (s : SeatState). s.view) c.count_of-n.ensures.same)
     (others-join c.count_of-n.new.seat.view c.swap-kid.new.seat.view c.cut_item-item.new.seat.view c.args.row c.swap-kid.ensures.others
-    (others-join c.swap-kid.new.seat.view c.close_gap.new.seat.view c.cut_item-item.new.seat.view c.args.row c.close_gap.ensures.others c.cut_item-item.ensures.others))
+    (others-join c.swap-kid.new.seat.view c.close_gap.new.seat.view c.cut_item-item.new.seat.view c.args.row c.close_gap.ensures.others
+    c.cut_item-item.ensures.others))
 
 pub lower_both-requires-clause-node : goal.lower_both-requires-clause-node
 lower_both-requires-clause-node c =

@@ -1,5 +1,4 @@
 use Rattle.std.proofs.Common.{List, ap, arith, length, ℕ, ◌-◌, ◌∙◌, ◌≡◌, ◌≤◌}
-use Rattle.row_pool.proofs.Joins.{seat}
 use Rattle.row_pool.specs.Changes.{with_old_target}
 use Rattle.row_pool.specs.SeatState.{SeatState}
 use Rattle.row_pool.specs.SeatView.{SeatView}
@@ -67,7 +66,8 @@ cut_item-item-requires-clause-seam c =
 others : (c : After-cut_item-item) → OthersStand c.args.row c.args.seat.now.view c.cut_item-item.new.seat.view
 others c = others-same c.args.seat.now.view c.count_of-n.new.seat.view c.cut_item-item.new.seat.view c.args.row
     (ap (λ (s : SeatState). s.view) c.count_of-n.ensures.same)
-    (others-join c.count_of-n.new.seat.view c.swap-kid.new.seat.view c.cut_item-item.new.seat.view c.args.row c.swap-kid.ensures.others c.cut_item-item.ensures.others)
+    (others-join c.count_of-n.new.seat.view c.swap-kid.new.seat.view c.cut_item-item.new.seat.view c.args.row c.swap-kid.ensures.others
+    c.cut_item-item.ensures.others)
 
 pub lower_both-requires-clause-node : goal.lower_both-requires-clause-node
 lower_both-requires-clause-node c =

@@ -1,6 +1,4 @@
-use Rattle.std.proofs.Common.{List, [], ap, arith, false, length, not, refl, subst, sym, ℕ, ◌∙◌, ◌∷◌, ◌≡◌}
-use Rattle.row_pool.proofs.Allowed.{owns}
-use Rattle.row_pool.proofs.Joins.{seat}
+use Rattle.std.proofs.Common.{List, [], ap, arith, length, refl, subst, sym, ℕ, ◌∙◌, ◌∷◌, ◌≡◌}
 use Rattle.row_pool.specs.Chains.{IsChain}
 use Rattle.row_pool.specs.SeatView.{SeatView}
 use Rattle.row_pool.specs.Trees.{Tree}
@@ -76,7 +74,8 @@ returns-then-may_have-clause-node c = λ h kind n top us ls l m u R o.
     (subst (λ v. OwnsNode v c.args.row kind n (top ∷ us)) (sym (quiet (goal.at.returns-then-may_have-clause-node c).After-may_have)) o.owns) o.body o.some_items
 
 pub returns-then-may_have-clause-spends : goal.returns-then-may_have-clause-spends
-returns-then-may_have-clause-spends c = subst (λ v. SpendsAll 0 (c.args.row ∷ []) (c.args.row ∷ []) v c.set_top.new.seat.view c.args.chain.now c.set_top.new.chain)
+returns-then-may_have-clause-spends c = subst (λ v. SpendsAll 0 (c.args.row ∷ []) (c.args.row ∷ []) v c.set_top.new.seat.view c.args.chain.now
+    c.set_top.new.chain)
     (quiet (goal.at.returns-then-may_have-clause-spends c).After-may_have) c.set_top.ensures.spends
 
 pub returns-else-may_have-clause-same : goal.returns-else-may_have-clause-same

@@ -1,13 +1,9 @@
-use Rattle.std.proofs.Common.{List, false, subst, sym, true, ℕ, ⊎_elim, ◌∙◌, ◌≢◌}
-use Rattle.std.specs.Ordering.{is_lt}
-use Rattle.row_pool.proofs.Joins.{seat}
-use Rattle.row_pool.proofs.Seats.{reached}
+use Rattle.std.proofs.Common.{List, subst, sym, ℕ, ⊎_elim, ◌∙◌, ◌≢◌}
 use Rattle.row_pool.specs.Trees.{Tree}
-use Rattle.latch_item.specs.Items.{HasItem, Item, item_of, part}
+use Rattle.latch_item.specs.Items.{HasItem, Item, item_of}
 use Rattle.latch_item.specs.Shape.{Among}
 use Rattle.interval_tree.proofs.Greatest.{has-item, item-at}
 use Rattle.interval_tree.specs.States.{Greatest}
-use Rattle.span_key.specs.Spans.{bound_cmp}
 use Rattle.tree_shrink.proofs.Lending.{carried-kid, differs, lt-less, not-below, part-none}
 use Rattle.tree_shrink.specs.Stages.{Carried}
 use Rattle.tree_shrink.proofs.ends.may_have.Goals as goal

@@ -1,10 +1,8 @@
-use Rattle.std.proofs.Common.{List, [], ap, arith, false, length, subst, sym, true, ℕ, ◌∙◌, ◌∷◌, ◌≢◌}
-use Rattle.row_pool.proofs.Joins.{seat}
-use Rattle.row_pool.proofs.Seats.{reached}
+use Rattle.std.proofs.Common.{List, [], ap, arith, length, subst, sym, ℕ, ◌∙◌, ◌∷◌, ◌≢◌}
 use Rattle.row_pool.specs.Chains.{IsChain}
 use Rattle.row_pool.specs.SeatView.{SeatView}
 use Rattle.row_pool.specs.Trees.{Tree}
-use Rattle.latch_item.specs.Items.{IsLatch, part}
+use Rattle.latch_item.specs.Items.{IsLatch}
 use Rattle.interval_tree.proofs.Frames.{spends-join}
 use Rattle.interval_tree.specs.Held.{OwnsNode}
 use Rattle.interval_tree.specs.Nodes.{Raised}
@@ -86,7 +84,8 @@ returns-then-kid-ne0-clause-node c = λ h kind n top us l m u R o fits carried.
 pub returns-then-kid-ne0-clause-spends : goal.returns-then-kid-ne0-clause-spends
 returns-then-kid-ne0-clause-spends c = λ rs g.
     let row = c.args.row in let s = c.raise_top.ensures.spends rs g in
-    spends-join 0 0 (row ∷ []) (row ∷ []) (row ∷ []) rs c.args.seat.now.view c.raise_top.new.seat.view c.raise_top-then-kid-ne0.new.seat.view c.raise_top.new.chain
+    spends-join 0 0 (row ∷ []) (row ∷ []) (row ∷ []) rs c.args.seat.now.view c.raise_top.new.seat.view c.raise_top-then-kid-ne0.new.seat.view
+    c.raise_top.new.chain
     c.raise_top-then-kid-ne0.new.chain s
     (subst (λ v. SpendsAll 0 (row ∷ []) (row ∷ []) v c.raise_top-then-kid-ne0.new.seat.view c.raise_top.new.chain c.raise_top-then-kid-ne0.new.chain)
     c.top_of-top.ensures.same.1 c.raise_top-then-kid-ne0.ensures.spends s.left s.chain)

@@ -1,5 +1,4 @@
 use Rattle.std.proofs.Common.{List, [], ap, arith, length, refl, subst, sym, ℕ, ◌-◌, ◌∙◌, ◌∷◌, ◌≡◌, ◌≢◌}
-use Rattle.row_pool.proofs.Joins.{seat}
 use Rattle.row_pool.specs.Chains.{IsChain}
 use Rattle.row_pool.specs.SeatView.{SeatView}
 use Rattle.row_pool.specs.Trees.{Tree, tree_word}
@@ -36,7 +35,8 @@ record Once (v w : SeatView) (left right kind n sort k : ℕ) (us vs : List Tree
   right_owns : OwnsNode w right sort k (b ∷ vs)
   fits : IsLatch new
 
-once : (c : After-raise_top) → (kind n sort k : ℕ) (us vs : List Tree) (a b m : Tree) (R : List Tree) → OwnsNode c.args.seat.now.view c.args.left kind n (a ∷ us)
+once : (c : After-raise_top) → (kind n sort k : ℕ) (us vs : List Tree) (a b m : Tree) (R : List Tree)
+    → OwnsNode c.args.seat.now.view c.args.left kind n (a ∷ us)
     → OwnsNode c.args.seat.now.view c.args.right sort k (b ∷ vs) → IsLatch a → IsLatch m → tree_word m ≡ c.args.item → c.args.seat.now.view.refs ≡ m ∷ R
     → c.args.left ≢ c.args.right
     → Once c.args.seat.now.view c.raise_top.new.seat.view c.args.left c.args.right kind n sort k us vs a b m
@@ -101,7 +101,8 @@ returns-clause-nodes c = λ kind n sort k us vs a b m R o o2 fa fb fm is refs ap
     let at = goal.at.returns-clause-nodes c in
     let z = once at.After-raise_top kind n sort k us vs a b m R o o2 fa fm is refs apart in
     let (last, raised, owns) = c.raise_top-2.ensures.node kind n z.new us b
-    (subst (λ v. OwnsNode v c.args.left kind n (z.new ∷ us)) (sym c.row_at-top.ensures.same.1) z.owns) z.fits (top-at at.After-row_at-top sort k b vs z.right_owns fb) in
+    (subst (λ v. OwnsNode v c.args.left kind n (z.new ∷ us)) (sym c.row_at-top.ensures.same.1) z.owns) z.fits (top-at at.After-row_at-top sort k b vs
+    z.right_owns fb) in
     (z.new, last, z.raised, raised, owns)
 
 pub returns-clause-spends : goal.returns-clause-spends

@@ -1,5 +1,4 @@
 use Rattle.std.proofs.Common.{List, [], ap, append_assoc, arith, length, refl, replicate, subst, suc, sym, ℕ, ◌++◌, ◌∙◌, ◌∷◌, ◌≡◌}
-use Rattle.row_pool.proofs.Joins.{seat}
 use Rattle.row_pool.proofs.NewestRef.{tree_of-first, without_tree-first}
 use Rattle.row_pool.specs.Chains.{IsChain}
 use Rattle.row_pool.specs.Changes.{tree_of, without_tree}
@@ -8,7 +7,8 @@ use Rattle.latch_item.specs.Shape.{IsTop}
 use Rattle.interval_tree.proofs.Frames.{spends-leaves}
 use Rattle.interval_tree.proofs.Rows.{back-cons}
 use Rattle.interval_tree.specs.Held.{OwnsNode}
-use Rattle.tree_shrink.proofs.Bench.{Bench, bench-call, bench-chain, bench-grows, bench-links, bench-more, bench-start, bench-step, bench-turn, node_at, two-apart}
+use Rattle.tree_shrink.proofs.Bench.{Bench, bench-call, bench-chain, bench-grows, bench-links, bench-more, bench-start, bench-step, bench-turn, node_at}
+use Rattle.tree_shrink.proofs.Bench.{two-apart}
 use Rattle.tree_shrink.proofs.Borders.{top-joined, top-one}
 use Rattle.tree_shrink.proofs.Joining.{Fifteen, bare-low, both-joined, fifteen, fore, fore-long, left-one, left-two, place-one, right-one, tail_of, two-long}
 use Rattle.tree_shrink.specs.Stages.{Joins}
@@ -51,13 +51,16 @@ module _ {h kind sort : ℕ} {us vs ls rs : List Tree} (m : Tree) {R : List Tree
   covered c p g =
       let v = c.args.seat.now.view in let left = c.args.left in let right = c.args.right in
       let ol = subst (OwnsNode v left kind 15) a.links p.left_owns in let rl = subst (OwnsNode v right sort 15) b.links p.right_owns in
-      let (s, t, one, two, owns) = c.cover.ensures.nodes kind 15 sort 15 (tail_of a) (tail_of b) a.top b.top m R ol rl a.fits b.fits p.fits p.here p.refs p.apart in
+      let (s, t, one, two, owns) = c.cover.ensures.nodes kind 15 sort 15 (tail_of a) (tail_of b) a.top b.top m R ol rl a.fits b.fits p.fits p.here p.refs
+      p.apart in
       let start = bench-start v c.args.chain.now qs (node_at left kind 15 (a.top ∷ tail_of a) ∷ node_at right sort 15 (b.top ∷ tail_of b) ∷ []) (m ∷ R) g
       (ol, (rl, tt)) (two-apart left right p.apart) p.refs in
-      let z = bench-call (node_at left kind 15 (a.top ∷ tail_of a) ∷ []) (node_at left kind 15 (t ∷ tail_of a) ∷ []) (node_at right sort 15 (b.top ∷ tail_of b) ∷ [])
+      let z = bench-call (node_at left kind 15 (a.top ∷ tail_of a) ∷ []) (node_at left kind 15 (t ∷ tail_of a) ∷ []) (node_at right sort 15 (b.top ∷ tail_of
+      b) ∷ [])
       start c.cover.ensures.spends (owns, tt) (refl, tt) (c.cover.ensures.same.1 ∙ p.refs) in (
         t,
-        subst (IsTop t) (append_assoc ls (m ∷ []) rs) (top-joined s b.top t (ls ++ m ∷ []) rs (top-joined a.top m s ls (m ∷ []) a.greatest (top-one m) one) b.greatest two),
+        subst (IsTop t) (append_assoc ls (m ∷ []) rs) (top-joined s b.top t (ls ++ m ∷ []) rs (top-joined a.top m s ls (m ∷ []) a.greatest (top-one m) one)
+            b.greatest two),
         bench-links (place-one h kind us ls t a) z,
       )
 
@@ -134,7 +137,8 @@ module _ {h kind sort : ℕ} {us vs ls rs : List Tree} (m : Tree) {R : List Tree
         w.is.here,
         bench-more 0 (omega arith) (bench-call (node_at c.args.right sort 15 links ∷ []) []
             (node_at c.args.left kind 31 ((fore a t m ++ (b.its ++ a.ks)) ++ (b.ks ++ [])) ∷ []) z
-            (λ ss g. spends-leaves c.set_count.new.seat.view c.publish_node.new.seat.view c.args.right sort 15 links c.cover.new.chain [] ss z.owns.0 w.others w.gone g)
+            (λ ss g. spends-leaves c.set_count.new.seat.view c.publish_node.new.seat.view c.args.right sort 15 links c.cover.new.chain [] ss z.owns.0
+            w.others w.gone g)
             tt tt (w.refs ∙ ap (λ ts. w.tree ∷ ts) z.refs)),
       )
 
@@ -269,7 +273,8 @@ returns-clause-joined c = λ h kind sort us vs ls rs m R p.
     let (t, top, z) = covered m a b qs at.After-cover p g in
     let (u, here, y) = gone m a b qs at.After-publish_node t (counted m a b qs at.After-set_count t (children-in m a b qs at.After-move_children p t
     (items-in m a b qs at.After-move_links p t (item-in m a b qs at.After-swap p t z)))) in
-    let x = bench-grows y c.drop_ref.ensures.chain (c.drop_ref.ensures.refs ∙ ap (without_tree c.args.right) y.refs ∙ without_tree-first c.args.right u R here) in
+    let x = bench-grows y c.drop_ref.ensures.chain (c.drop_ref.ensures.refs ∙ ap (without_tree c.args.right) y.refs
+    ∙ without_tree-first c.args.right u R here) in
     record {
       us = (fore a t m ++ (b.its ++ a.ks)) ++ (b.ks ++ []);
       owns = x.owns.0;

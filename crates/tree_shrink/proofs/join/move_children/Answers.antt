@@ -1,7 +1,5 @@
-use Rattle.std.proofs.Common.{ap, false, subst, sym, ◌++◌, ◌∙◌, ◌≡◌}
-use Rattle.row_pool.proofs.Joins.{seat}
-use Rattle.row_pool.specs.SeatState.{SeatState, kind_of}
-use Rattle.row_pool.specs.Trees.{children}
+use Rattle.std.proofs.Common.{ap, subst, sym, ◌++◌, ◌∙◌, ◌≡◌}
+use Rattle.row_pool.specs.SeatState.{SeatState}
 use Rattle.interval_tree.specs.Steps.{CanMove}
 use Rattle.tree_shrink.proofs.Joining.{children-move, inner-moves, leaf-moves}
 use Rattle.tree_shrink.specs.Steps.{MovesChildren}
@@ -17,7 +15,8 @@ quiet : (c : After-kind_of) → c.kind_of.new.seat.view ≡ c.args.seat.now.view
 quiet c = ap (λ (s : SeatState). s.view) c.kind_of.ensures.same
 
 pub move_links-requires-clause-links : goal.move_links-requires-clause-links
-move_links-requires-clause-links c = subst (λ v. CanMove v c.args.from c.args.to 32 48 16) (sym (quiet (goal.at.move_links-requires-clause-links c).After-kind_of))
+move_links-requires-clause-links c = subst (λ v. CanMove v c.args.from c.args.to 32 48 16) (sym (quiet (goal.at.move_links-requires-clause-links
+    c).After-kind_of))
     (children-move c.args.seat.now.view c.args.from c.args.to c.requires.children)
 
 pub returns-then-kind_of-eq-INNER-clause-moved : goal.returns-then-kind_of-eq-INNER-clause-moved

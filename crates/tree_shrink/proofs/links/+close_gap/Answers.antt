@@ -1,6 +1,4 @@
-use Rattle.std.proofs.Common.{arith, false, true, ◌∙◌, ◌≡◌}
-use Rattle.row_pool.proofs.Joins.{seat}
-use Rattle.interval_tree.proofs.Linking.{closed}
+use Rattle.std.proofs.Common.{arith, ◌∙◌, ◌≡◌}
 use Rattle.tree_shrink.proofs.Gaps.{all-closed, close-first, close-next, close-second, none-closed}
 use Rattle.tree_shrink.proofs.links.+close_gap.Goals as goal
 

@@ -1,6 +1,5 @@
-use Rattle.std.proofs.Common.{ap, false, replicate, subst, sym, ◌++◌, ◌+◌, ◌-◌, ◌∙◌, ◌∷◌, ◌≡◌}
-use Rattle.row_pool.proofs.Joins.{seat}
-use Rattle.row_pool.specs.SeatState.{SeatState, kind_of}
+use Rattle.std.proofs.Common.{ap, replicate, subst, sym, ◌++◌, ◌+◌, ◌-◌, ◌∙◌, ◌∷◌, ◌≡◌}
+use Rattle.row_pool.specs.SeatState.{SeatState}
 use Rattle.row_pool.specs.Trees.{nil}
 use Rattle.tree_shrink.proofs.Gaps.{children-close, leaf-closes}
 use Rattle.tree_shrink.specs.Steps.{CanClose, ClosesChildren}

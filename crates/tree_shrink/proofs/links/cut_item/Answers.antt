@@ -1,5 +1,4 @@
 use Rattle.std.proofs.Common.{List, ap, arith, length, refl, subst, sym, ℕ, ◌++◌, ◌-◌, ◌<◌, ◌∙◌, ◌∷◌, ◌≡◌}
-use Rattle.row_pool.proofs.Joins.{seat}
 use Rattle.row_pool.specs.Trees.{Tree, nil, tree_word}
 use Rattle.interval_tree.proofs.Rows.{back-cons}
 use Rattle.interval_tree.specs.Held.{OwnsNode}
@@ -44,7 +43,8 @@ module _ (h kind : ℕ) (ps qs : List Tree) (top s x : Tree) where
       → OwnsNode c.swap-item.new.seat.view c.args.row kind c.args.n (item_front o top ++ nil ∷ item_back o x nil)
       → OwnsNode c.close_gap.new.seat.view c.args.row kind c.args.n (closed_front o top x ++ nil ∷ kid_back o)
   closed c o owns = subst (OwnsNode c.close_gap.new.seat.view c.args.row kind c.args.n) (closed-items h c.args.n top x ps qs c.args.i o)
-      (c.close_gap.ensures.closed kind c.args.n (item_front o top) o.js (items_behind o x) owns (let p = o.place in omega arith) (let p = o.count in omega arith))
+      (c.close_gap.ensures.closed kind c.args.n (item_front o top) o.js (items_behind o x) owns (let p = o.place in omega arith) (let p = o.count in omega
+      arith))
 
   -- and the children
   both-closed : (c : After-close_children) → kind ≡ kind_at h → (o : Seam h c.args.n ps qs c.args.i)

@@ -1,6 +1,4 @@
 use Rattle.std.proofs.Common.{List, [], ap, arith, length, refl, subst, sym, ℕ, ◌++◌, ◌-◌, ◌∙◌, ◌∷◌, ◌≡◌}
-use Rattle.row_pool.proofs.Allowed.{owns}
-use Rattle.row_pool.proofs.Joins.{seat}
 use Rattle.row_pool.proofs.NewestRef.{without_tree-first}
 use Rattle.row_pool.specs.Chains.{IsChain}
 use Rattle.row_pool.specs.Changes.{without_tree}
@@ -23,7 +21,8 @@ swap-link-requires-clause-link c =
 out : (c : After-swap-link) → (h kind n : ℕ) (us vs : List Tree) (u : Tree) (ys : List Tree) → OwnsNode c.args.seat.now.view c.args.row kind n (us ++ u ∷ vs)
     → length us ≡ c.args.k → Kid (Node h) u ys
     → TakenOut h c.swap-link.new.seat.view c.args.row kind n c.swap-link.result us vs u ys c.args.seat.now.view.refs
-out c h kind n us vs u ys o at kid = taken-out h c.args.seat.now.view c.swap-link.new.seat.view c.args.row c.args.k c.swap-link.result kind n us vs u ys o at kid
+out c h kind n us vs u ys o at kid = taken-out h c.args.seat.now.view c.swap-link.new.seat.view c.args.row c.args.k c.swap-link.result kind n us vs u ys o at
+    kid
     c.swap-link.ensures.node
 
 -- the chain until then

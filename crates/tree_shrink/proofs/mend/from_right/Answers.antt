@@ -1,14 +1,12 @@
 use Rattle.std.proofs.Common.{List, [], ap, append-nil, arith, length, refl, subst, suc, sym, ℕ, ◌++◌, ◌+◌, ◌-◌, ◌∙◌, ◌∷◌, ◌≡◌, ◌≤◌}
-use Rattle.row_pool.proofs.Allowed.{owns}
-use Rattle.row_pool.proofs.Joins.{seat}
-use Rattle.row_pool.proofs.Writes.{linked}
 use Rattle.row_pool.specs.Chains.{IsChain}
 use Rattle.row_pool.specs.Changes.{with_old_target}
 use Rattle.row_pool.specs.Trees.{Tree, children, nil}
-use Rattle.latch_item.specs.Items.{part, word}
+use Rattle.latch_item.specs.Items.{word}
 use Rattle.interval_tree.specs.Held.{OwnsNode}
 use Rattle.tree_shrink.proofs.Bench.{Bench, bench-chain, node_at}
-use Rattle.tree_shrink.proofs.Mending.{LentFrom, back-moves, bench-gained, bench-lent, bench-link, bench-linked, bench-swap, bench-swapped, bench-taken, child-gains, item-next, lent-refs, right-links, roomy, take-can}
+use Rattle.tree_shrink.proofs.Mending.{LentFrom, back-moves, bench-gained, bench-lent, bench-link, bench-linked, bench-swap, bench-swapped, bench-taken}
+use Rattle.tree_shrink.proofs.Mending.{child-gains, item-next, lent-refs, right-links, roomy, take-can}
 use Rattle.tree_shrink.proofs.Seams.{close-right, item_back, item_front, kid_back, kid_front, next-place, seam-next}
 use Rattle.tree_shrink.specs.Slots.{Rightward}
 use Rattle.tree_shrink.specs.Stages.{Has, Open}
@@ -37,7 +35,8 @@ module _ {n h : ℕ} {xs ps ys qs R : List Tree} where
       → Bench c.args.seat.now.view (c.args.row ∷ c.args.child ∷ []) rs 1 c.take_child-right.new.seat.view c.take_child-right.new.chain
       (node_at c.args.row 3 n ((kid_front l.seam o.top l.s ++ nil ∷ []) ++ nil ∷ kid_back l.seam)
       ∷ node_at c.take_child-right.result (word l.kid 1) (word l.kid 2) (children l.kid) ∷ node_at c.args.child o.sort o.count o.below ∷ []) R
-      → (g : LentFrom h c.lend_first-item.new.seat.view c.take_child-right.result (word l.kid 1) (word l.kid 2 - 1) l.l c.lend_first-item.result.0 c.lend_first-item.result.1 R
+      → (g : LentFrom h c.lend_first-item.new.seat.view c.take_child-right.result (word l.kid 1) (word l.kid 2 - 1) l.l c.lend_first-item.result.0
+      c.lend_first-item.result.1 R
       (λ ls m l2. l2 ++ m ∷ ls))
       × Bench c.args.seat.now.view (c.args.row ∷ c.args.child ∷ []) rs 1 c.lend_first-item.new.seat.view c.lend_first-item.new.chain
       (node_at c.args.row 3 n (item_front l.seam o.top ++ l.s ∷ item_back l.seam nil nil)
@@ -73,7 +72,8 @@ gain_last-requires-clause-gains c =
     let (n, (h, xs, ps, ys, qs, R, low, o, l, rich, poor)) = c.requires.state in let (rs, g, many) = c.requires.room in
     let at = goal.at.gain_last-requires-clause-gains c in
     let (e, b) = out at.After-lend_first-item o l rich (taken at.After-take_child-right o l g) in
-    let (named, d) = bench-swapped l.seam R e.lent.u b c.swap-middle.ensures.node c.swap-middle.ensures.others e.lent.carried.fits l.fits e.lent.carried.item_is in
+    let (named, d) = bench-swapped l.seam R e.lent.u b c.swap-middle.ensures.node c.swap-middle.ensures.others e.lent.carried.fits l.fits
+    e.lent.carried.item_is in
     (h, o.sort, o.below, ys, e.l2, l.s, e.lent.u, R, child-gains o poor d l.fits e.lent.carried.part named e.lent.carried.kid_is)
 
 pub gain_last-requires-clause-chain : goal.gain_last-requires-clause-chain
@@ -98,10 +98,14 @@ module _ {n h : ℕ} {xs ps ys qs R : List Tree} where
       (node_at c.args.row 3 n ((kid_front l.seam o.top e.m ++ nil ∷ []) ++ nil ∷ kid_back l.seam)
       ∷ node_at c.take_child-right.result (word l.kid 1) (word l.kid 2 - 1) e.lent.us ∷ node_at c.args.child o.sort 16 has.us ∷ []) R
   gained c o l poor e b =
-      let (named, d) = bench-swapped l.seam R e.lent.u b c.swap-middle.ensures.node c.swap-middle.ensures.others e.lent.carried.fits l.fits e.lent.carried.item_is in
+      let (named, d) = bench-swapped l.seam R e.lent.u b c.swap-middle.ensures.node c.swap-middle.ensures.others e.lent.carried.fits l.fits
+      e.lent.carried.item_is in
       let has = c.gain_last.ensures.gained h o.sort o.below ys e.l2 l.s e.lent.u R
-      (child-gains o poor d l.fits e.lent.carried.part named e.lent.carried.kid_is) in
-      (has, bench-gained l.seam e.m (kid_front l.seam o.top e.m ++ nil ∷ []) (kid_back l.seam) d c.gain_last.ensures.spends has.owns has.refs (sym (item-next l.seam o.top e.m)))
+      (child-gains o poor d l.fits e.lent.carried.part named e.lent.carried.kid_is) in (
+        has,
+        bench-gained l.seam e.m (kid_front l.seam o.top e.m ++ nil ∷ []) (kid_back l.seam) d c.gain_last.ensures.spends has.owns has.refs (sym (item-next
+            l.seam o.top e.m)),
+      )
 
 pub link_node-requires-clause-link : goal.link_node-requires-clause-link
 link_node-requires-clause-link c =
@@ -109,7 +113,8 @@ link_node-requires-clause-link c =
     let at = goal.at.link_node-requires-clause-link c in
     let (e, b) = out at.After-lend_first-item o l rich (taken at.After-take_child-right o l g) in
     let (has, d) = gained at.After-gain_last o l poor e b in
-    bench-link h (33 + c.args.i) e.ls (kid_front l.seam o.top e.m ++ nil ∷ []) (kid_back l.seam) d (next-place (suc h) n o.top e.m nil ps l.rs c.args.i l.seam) (let a = c.requires.low in omega arith) e.lent.whole low o.few
+    bench-link h (33 + c.args.i) e.ls (kid_front l.seam o.top e.m ++ nil ∷ []) (kid_back l.seam) d (next-place (suc h) n o.top e.m nil ps l.rs c.args.i
+    l.seam) (let a = c.requires.low in omega arith) e.lent.whole low o.few
 
 pub returns-clause-roomy : goal.returns-clause-roomy
 returns-clause-roomy c = λ n h xs ps ys qs R low o l rich poor.
@@ -117,7 +122,8 @@ returns-clause-roomy c = λ n h xs ps ys qs R low o l rich poor.
     let v = c.args.seat.now.view in let w = c.link_node.new.seat.view in let row = c.args.row in let child = c.args.child in let i = c.args.i in
     let (e, t) = out at.After-lend_first-item o l rich (taken at.After-take_child-right o l g) in
     let (has, d) = gained at.After-gain_last o l poor e t in
-    let k = bench-linked h (33 + i) (kid_front l.seam o.top e.m ++ nil ∷ []) (kid_back l.seam) d (next-place (suc h) n o.top e.m nil ps l.rs i l.seam) e.lent.whole (omega arith) c.link_node.ensures.spends
+    let k = bench-linked h (33 + i) (kid_front l.seam o.top e.m ++ nil ∷ []) (kid_back l.seam) d (next-place (suc h) n o.top e.m nil ps l.rs i l.seam)
+    e.lent.whole (omega arith) c.link_node.ensures.spends
     c.link_node.ensures.linked in
     let j = close-right (suc h) n ps l.rs i l.seam e.m k.tree e.ls e.lent.carried.fits k.kid in
     roomy h v w row n child i xs ps ys qs R o n child i ps (ys ++ l.s ∷ e.l2) (e.m ∷ (e.ls ++ l.rs)) [] (l.s ∷ e.l2) j.slot o.sort 16 has.us
@@ -130,5 +136,6 @@ returns-clause-spends c = λ rs g.
     let (n, (h, xs, ps, ys, qs, R, low, o, l, rich, poor)) = c.requires.state in let at = goal.at.returns-clause-spends c in
     let (e, t) = out at.After-lend_first-item o l rich (taken at.After-take_child-right o l g) in
     let (has, d) = gained at.After-gain_last o l poor e t in
-    (bench-linked h (33 + c.args.i) (kid_front l.seam o.top e.m ++ nil ∷ []) (kid_back l.seam) d (next-place (suc h) n o.top e.m nil ps l.rs c.args.i l.seam) e.lent.whole (omega arith) c.link_node.ensures.spends
+    (bench-linked h (33 + c.args.i) (kid_front l.seam o.top e.m ++ nil ∷ []) (kid_back l.seam) d (next-place (suc h) n o.top e.m nil ps l.rs c.args.i l.seam)
+    e.lent.whole (omega arith) c.link_node.ensures.spends
     c.link_node.ensures.linked).bench.spends

@@ -1,6 +1,5 @@
 use Rattle.std.proofs.Common.{List, arith, inl, length, subst, suc, sym, ℕ, ◌++◌, ◌∷◌, ◌≡◌}
 use Rattle.std.proofs.lemmas.Bool.{ltb-false, ltb-true}
-use Rattle.row_pool.proofs.Joins.{seat}
 use Rattle.row_pool.specs.Trees.{Tree, children, tree_word}
 use Rattle.row_pool.specs.Views.{Reaches}
 use Rattle.latch_item.specs.Items.{word}

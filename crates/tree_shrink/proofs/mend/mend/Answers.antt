@@ -1,6 +1,4 @@
-use Rattle.std.proofs.Common.{arith, false, subst, ◌+◌, ◌-◌, ◌≡◌}
-use Rattle.row_pool.proofs.Joins.{seat}
-use Rattle.tree_shrink.proofs.Mending.{roomy}
+use Rattle.std.proofs.Common.{arith, subst, ◌+◌, ◌-◌, ◌≡◌}
 use Rattle.tree_shrink.specs.Steps.{IsPoor, Mends}
 use Rattle.tree_shrink.proofs.mend.mend.Goals as goal
 

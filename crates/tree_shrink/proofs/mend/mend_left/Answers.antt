@@ -1,8 +1,6 @@
-use Rattle.std.proofs.Common.{[], arith, false, subst, suc, sym, true, ℕ, ◌+◌, ◌-◌, ◌∷◌, ◌≡◌, ◌≤◌}
-use Rattle.row_pool.proofs.Joins.{seat}
-use Rattle.latch_item.specs.Items.{part}
+use Rattle.std.proofs.Common.{[], arith, subst, suc, sym, ℕ, ◌+◌, ◌-◌, ◌∷◌, ◌≡◌, ◌≤◌}
 use Rattle.interval_tree.specs.Held.{HasRoom}
-use Rattle.tree_shrink.proofs.Mending.{just-least, roomy, roomy-less, weigh-left, weighs-left}
+use Rattle.tree_shrink.proofs.Mending.{just-least, roomy-less, weigh-left, weighs-left}
 use Rattle.tree_shrink.proofs.Seams.{left-of}
 use Rattle.tree_shrink.specs.Steps.{FromLeft, IsPoor, LeftIs, Mends, SpendsAll}
 use Rattle.tree_shrink.proofs.mend.mend_left.Goals as goal
@@ -55,7 +53,8 @@ returns-then-is_rich-clause-spends c = subst (λ v. SpendsAll 1 (c.args.row ∷ 
 pub returns-then-b-n-clause-roomy : goal.returns-then-b-n-clause-roomy
 returns-then-b-n-clause-roomy c = λ h xs ps ys qs R low o poor.
     let l = left-of (suc h) c.args.n ps qs (c.args.b + 1) c.args.b o.slot (omega arith) in
-    let f = subst (λ v. FromLeft (λ k. k ≡ 15) v c.merge_left.new.seat.view c.args.row c.args.child c.args.b c.args.n c.merge_left.result c.args.b (c.args.n - 1))
+    let f = subst (λ v. FromLeft (λ k. k ≡ 15) v c.merge_left.new.seat.view c.args.row c.args.child c.args.b c.args.n c.merge_left.result c.args.b (c.args.n
+    - 1))
     c.is_rich.ensures.same.1 c.merge_left.ensures.roomy in
     f h xs ps ys qs R low o l (just-least h l.part (weighs-left (λ k. k ≤ 15) o l (c.is_rich.ensures.poor c.if-is_rich.false))) poor
 

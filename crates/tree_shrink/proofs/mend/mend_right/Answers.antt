@@ -1,8 +1,6 @@
-use Rattle.std.proofs.Common.{[], arith, false, subst, suc, sym, true, ℕ, ◌-◌, ◌∷◌, ◌≡◌, ◌≤◌}
-use Rattle.row_pool.proofs.Joins.{seat}
-use Rattle.latch_item.specs.Items.{part}
+use Rattle.std.proofs.Common.{[], arith, subst, suc, sym, ℕ, ◌-◌, ◌∷◌, ◌≡◌, ◌≤◌}
 use Rattle.interval_tree.specs.Held.{HasRoom}
-use Rattle.tree_shrink.proofs.Mending.{just-least, roomy, roomy-less, weigh-right, weighs-right}
+use Rattle.tree_shrink.proofs.Mending.{just-least, roomy-less, weigh-right, weighs-right}
 use Rattle.tree_shrink.proofs.Seams.{right-of}
 use Rattle.tree_shrink.specs.Steps.{FromRight, RightIs, SpendsAll}
 use Rattle.tree_shrink.proofs.mend.mend_right.Goals as goal

@@ -1,10 +1,7 @@
 use Rattle.std.proofs.Common.{List, [], append-nil, arith, refl, suc, sym, ℕ, ◌++◌, ◌-◌, ◌∷◌, ◌≡◌}
-use Rattle.row_pool.proofs.Allowed.{owns}
-use Rattle.row_pool.proofs.Joins.{seat}
 use Rattle.row_pool.specs.Chains.{IsChain}
-use Rattle.row_pool.specs.Changes.{joined}
 use Rattle.row_pool.specs.Trees.{Tree, children, nil, tree_word}
-use Rattle.latch_item.specs.Items.{part, word}
+use Rattle.latch_item.specs.Items.{word}
 use Rattle.tree_shrink.proofs.Bench.{Bench, bench-chain, bench-third, bench-turn, node_at}
 use Rattle.tree_shrink.proofs.Mending.{bench-cut, bench-joined, bench-taken, cut-can, joins-right, right-links, roomy, take-can}
 use Rattle.tree_shrink.proofs.Seams.{kid_back, kid_front, next-place, seam-next, without}
@@ -16,7 +13,8 @@ use Rattle.tree_shrink.proofs.mend.merge_right.Goals.{After-take_child-right, Af
 pub take_child-right-requires-clause-child : goal.take_child-right-requires-clause-child
 take_child-right-requires-clause-child c =
     let (h, xs, ps, ys, qs, R, low, o, r, thin, poor) = c.requires.state in let sm = r.seam in let n = c.args.n in
-    take-can o (kid_front sm o.top r.s ++ nil ∷ []) (kid_back sm) r.kid r.l (right-links o r) (next-place (suc h) n o.top r.s nil ps r.rs c.args.i sm) (let a = c.requires.low in omega arith) r.part
+    take-can o (kid_front sm o.top r.s ++ nil ∷ []) (kid_back sm) r.kid r.l (right-links o r) (next-place (suc h) n o.top r.s nil ps r.rs c.args.i sm) (let a
+    = c.requires.low in omega arith) r.part
 
 module _ {h : ℕ} {xs ps ys qs R : List Tree} where
   taken : (c : After-take_child-right) → (o : Open h c.args.seat.now.view c.args.row c.args.n c.args.child c.args.i xs ps ys qs R)
@@ -24,7 +22,8 @@ module _ {h : ℕ} {xs ps ys qs R : List Tree} where
       → Bench c.args.seat.now.view (c.args.row ∷ c.args.child ∷ []) rs 1 c.take_child-right.new.seat.view c.take_child-right.new.chain
       (node_at c.args.row 3 c.args.n ((kid_front r.seam o.top r.s ++ nil ∷ []) ++ nil ∷ kid_back r.seam)
       ∷ node_at c.take_child-right.result (word r.kid 1) (word r.kid 2) (children r.kid) ∷ node_at c.args.child o.sort o.count o.below ∷ []) R
-  taken c o r g = let sm = r.seam in let n = c.args.n in bench-taken o (kid_front sm o.top r.s ++ nil ∷ []) (kid_back sm) r.kid r.l (right-links o r) (next-place (suc h) n o.top r.s nil ps r.rs c.args.i sm) r.part
+  taken c o r g = let sm = r.seam in let n = c.args.n in bench-taken o (kid_front sm o.top r.s ++ nil ∷ []) (kid_back sm) r.kid r.l (right-links o r)
+      (next-place (suc h) n o.top r.s nil ps r.rs c.args.i sm) r.part
       c.take_child-right.ensures.taken c.take_child-right.ensures.same.1 c.take_child-right.ensures.spends g
 
   -- the item between the two is out
@@ -39,12 +38,14 @@ module _ {h : ℕ} {xs ps ys qs R : List Tree} where
       ∷ node_at c.args.row 3 (c.args.n - 1) (cut_links r.seam o.top nil) ∷ []) (r.s ∷ R)
   out c o r b =
       let sm = r.seam in let n = c.args.n in
-      let (named, z) = bench-cut sm (kid_front sm o.top r.s ++ nil ∷ []) (kid_back sm) b (sym (seam-next (suc h) n o.top r.s nil nil ps r.rs c.args.i sm)) r.fits c.cut_item-item.ensures.seam c.cut_item-item.ensures.others in (named, bench-third (bench-turn z))
+      let (named, z) = bench-cut sm (kid_front sm o.top r.s ++ nil ∷ []) (kid_back sm) b (sym (seam-next (suc h) n o.top r.s nil nil ps r.rs c.args.i sm))
+      r.fits c.cut_item-item.ensures.seam c.cut_item-item.ensures.others in (named, bench-third (bench-turn z))
 
 pub cut_item-item-requires-clause-seam : goal.cut_item-item-requires-clause-seam
 cut_item-item-requires-clause-seam c =
     let (h, xs, ps, ys, qs, R, low, o, r, thin, poor) = c.requires.state in let (rs, g, many) = c.requires.room in let sm = r.seam in let n = c.args.n in
-    cut-can sm (kid_front sm o.top r.s ++ nil ∷ []) (kid_back sm) (taken (goal.at.cut_item-item-requires-clause-seam c).After-take_child-right o r g) (sym (seam-next (suc h) n o.top r.s nil nil ps r.rs c.args.i sm)) r.fits o.few
+    cut-can sm (kid_front sm o.top r.s ++ nil ∷ []) (kid_back sm) (taken (goal.at.cut_item-item-requires-clause-seam c).After-take_child-right o r g) (sym
+    (seam-next (suc h) n o.top r.s nil nil ps r.rs c.args.i sm)) r.fits o.few
 
 pub join_nodes-requires-clause-nodes : goal.join_nodes-requires-clause-nodes
 join_nodes-requires-clause-nodes c =
@@ -66,8 +67,10 @@ returns-clause-roomy c = λ h xs ps ys qs R low o r thin poor.
     let has = c.join_nodes.ensures.joined h o.sort (word r.kid 1) o.below (children r.kid) ys r.l r.s R (joins-right o r.part poor thin z r.fits named) in
     let t = bench-joined z c.join_nodes.ensures.spends has.owns has.refs in
     let n = c.args.n in
-    roomy h c.args.seat.now.view c.join_nodes.new.seat.view c.args.row n c.args.child c.args.i xs ps ys qs R o (n - 1) c.args.child c.args.i ps (ys ++ r.s ∷ r.l) r.rs []
-    (r.s ∷ r.l) (without (suc h) n ps r.rs c.args.i r.seam) o.sort 31 has.us (sym (append-nil ps)) refl r.list t.owns.0 o.apart t.owns.1.0 has.whole (omega arith)
+    roomy h c.args.seat.now.view c.join_nodes.new.seat.view c.args.row n c.args.child c.args.i xs ps ys qs R o (n - 1) c.args.child c.args.i ps (ys ++ r.s ∷
+    r.l) r.rs []
+    (r.s ∷ r.l) (without (suc h) n ps r.rs c.args.i r.seam) o.sort 31 has.us (sym (append-nil ps)) refl r.list t.owns.0 o.apart t.owns.1.0 has.whole (omega
+    arith)
     t.refs
 
 pub returns-clause-spends : goal.returns-clause-spends

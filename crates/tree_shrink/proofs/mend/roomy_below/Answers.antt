@@ -1,10 +1,8 @@
-use Rattle.std.proofs.Common.{List, ap, arith, false, subst, sym, true, ℕ, ◌-◌, ◌∙◌, ◌≡◌, ◌≤◌}
-use Rattle.row_pool.proofs.Allowed.{owns}
-use Rattle.row_pool.proofs.Joins.{seat}
+use Rattle.std.proofs.Common.{List, ap, arith, subst, sym, ℕ, ◌-◌, ◌∙◌, ◌≡◌, ◌≤◌}
 use Rattle.row_pool.specs.SeatState.{SeatState}
 use Rattle.row_pool.specs.Trees.{Tree, nil}
 use Rattle.interval_tree.specs.Held.{OwnsNode}
-use Rattle.tree_shrink.proofs.Mending.{open-place, poor-open, roomy, roomy-now}
+use Rattle.tree_shrink.proofs.Mending.{open-place, poor-open, roomy-now}
 use Rattle.tree_shrink.specs.Slots.{slot_links}
 use Rattle.tree_shrink.specs.Stages.{Open, Roomy}
 use Rattle.tree_shrink.proofs.mend.roomy_below.Goals as goal

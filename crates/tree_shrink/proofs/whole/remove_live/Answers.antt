@@ -1,9 +1,7 @@
 use Rattle.std.proofs.Common.{[], arith, ◌*◌, ◌+◌, ◌∷◌}
-use Rattle.row_pool.proofs.Joins.{seat}
 use Rattle.row_pool.specs.Changes.{without_tree}
 use Rattle.interval_tree.proofs.Frames.{spends-join, spends-more}
 use Rattle.interval_tree.proofs.Linking.{room-less}
-use Rattle.tree_shrink.proofs.Reaching.{standing}
 use Rattle.tree_shrink.proofs.whole.remove_live.Goals as goal
 
 pub take_item-node-requires-clause-room : goal.take_item-node-requires-clause-room

@@ -1,5 +1,4 @@
-use Rattle.std.proofs.Common.{List, [], ap, arith, false, length, refl, replicate, subst, suc, sym, true, ℕ, ◌++◌, ◌-◌, ◌∙◌, ◌∷◌, ◌≡◌, ◌≢◌, ◌≤◌}
-use Rattle.row_pool.proofs.Joins.{seat}
+use Rattle.std.proofs.Common.{List, [], ap, arith, length, refl, replicate, subst, suc, sym, ℕ, ◌++◌, ◌-◌, ◌∙◌, ◌∷◌, ◌≡◌, ◌≢◌, ◌≤◌}
 use Rattle.row_pool.proofs.NewestRef.{tree_of-first, without_tree-first}
 use Rattle.row_pool.specs.Chains.{IsChain}
 use Rattle.row_pool.specs.Changes.{tree_of, without_tree}
@@ -42,7 +41,8 @@ publish_node-requires-clause-room c =
 
 pub returns-then-count_of-gt0-clause-standing : goal.returns-then-count_of-gt0-clause-standing
 returns-then-count_of-gt0-clause-standing c = λ xs it R l.
-    let e = c.count_of.ensures.count l.kind l.many l.stood.us l.stood.owns in let q = view (goal.at.returns-then-count_of-gt0-clause-standing c).After-count_of in
+    let e = c.count_of.ensures.count l.kind l.many l.stood.us l.stood.owns in let q = view (goal.at.returns-then-count_of-gt0-clause-standing
+    c).After-count_of in
     let some_items : 1 ≤ l.many = (let b = c.if-count_of-gt0.true in omega arith) in
     let w = c.publish_node.ensures.node l.kind l.many l.stood.us (subst (λ v. OwnsNode v c.args.node l.kind l.many l.stood.us) (sym q) l.stood.owns) in (
       l.ys,

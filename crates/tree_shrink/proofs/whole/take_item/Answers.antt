@@ -1,7 +1,5 @@
 use Rattle.std.proofs.Common.{List, [], ap, arith, refl, ℕ, ◌*◌, ◌+◌, ◌∙◌, ◌∷◌}
 use Rattle.std.specs.Prelude.{Some}
-use Rattle.row_pool.proofs.Allowed.{owns}
-use Rattle.row_pool.proofs.Joins.{seat}
 use Rattle.row_pool.proofs.NewestRef.{tree_of-first, without_tree-first}
 use Rattle.row_pool.specs.Chains.{IsChain}
 use Rattle.row_pool.specs.Changes.{tree_of, without_tree}
@@ -92,7 +90,8 @@ returns-clause-left c = λ xs it l.
     let at = goal.at.returns-clause-left c in let v = c.args.seat.now.view in let b = c.remove_owned.new.seat.view in let w = c.drop_ref.new.seat.view in
     let a = aimed at.After-own_node-node xs it l in let s = shrunk at.After-remove_owned xs it l a in
     let g = c.drop_ref.ensures.chain in let t : Tree = tree_of c.args.root v.refs in let node = c.own_node-node.result in
-    left-of-root c.args.level v c.own_node-node.new.seat.view b w c.args.root c.args.item node (word t 1) (word t 2) c.remove_owned.result (children t) xs it l a
+    left-of-root c.args.level v c.own_node-node.new.seat.view b w c.args.root c.args.item node (word t 1) (word t 2) c.remove_owned.result (children t) xs it
+    l a
     s (stood-over (λ us o. owns-grows g.more b w node (word t 1) s.many us g.owns_more o) s.stood)
     (c.drop_ref.ensures.refs ∙ ap (without_tree c.args.item) s.refs ∙ without_tree-first c.args.item it (without_tree c.args.root v.refs) l.is)
 
