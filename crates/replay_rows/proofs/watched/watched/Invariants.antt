@@ -1,0 +1,5 @@
+use Rattle.replay_rows.proofs.watched.watched.Given as goal
+
+-- The making is that of the desk which was made.
+abbrev pub ghosts-within : goal.ghosts-within
+ghosts-within g a = record { made = record { table = a.core.board.table; sizes = a.core.board.sizes } }

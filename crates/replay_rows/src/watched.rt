@@ -1,0 +1,106 @@
+// Runs of a script on a manager that the gate sees.
+ghost use Rattle.std.specs.Prelude.{◌≡◌, All};
+ghost use Rattle.sequence_core.specs.Says.{AreFresh};
+ghost use Rattle.replay.specs.Running.{Rested, lane_numbers, program_sizes, whos};
+
+use crate::gates::{Hold, Watching};
+use latch_manager::manager::{Making, Manager};
+use latch_model::history::History;
+use replay::run::{PROGRAM_SIZES, sessions};
+use script::Script;
+use sequence_core::desk::Desk;
+use signal_board::board::Pass;
+use std::alloc::Global;
+use std::marker::Brand;
+use std::process::Abort;
+use std::sync::Wait;
+use std::thread::Threads;
+use step_run::RunFault;
+use waiter::Core;
+
+/// In front of this line the gate waits until the manager counts so many latches.
+#[derive(Clone, Copy)]
+pub(crate) struct Watch<'s> {
+    pub(crate) holds: &'s [Hold],
+    pub(crate) line: u32,
+    pub(crate) held: u32,
+}
+
+// The sessions run. Beside that, how many holds ran out.
+fn run_watched<N: Making + Send + Sync, R: Threads + Wait + Sync>(
+    rt: &R,
+    alloc: Global,
+    script: &Script,
+    manager: &Manager<N>,
+    passes: &mut [Pass],
+    watch: &Watch,
+) -> (Result<(), RunFault>, u64)
+    requires sizes { N.made.sizes ≡ program_sizes }
+    requires passes { AreFresh N.made.table 64 passes.old }
+    ensures whos { whos passes.new ≡ whos passes.old }
+    ensures rested { All (Rested N.made.table) passes.new }
+{
+    let gate = Watching::new(manager, watch.holds, watch.line, watch.held);
+    let ran = sessions(rt, alloc, script, manager, passes, &gate);
+    (ran, gate.ran_out())
+}
+
+// The manager of a making, and what becomes of its passes.
+fn within<N: Making + Send + Sync, R: Threads + Wait + Sync>(
+    rt: &R,
+    alloc: Global,
+    script: &Script,
+    core: Core,
+    desk: Desk,
+    passes: &mut Vec<Pass>,
+    watch: &Watch,
+) -> (Core, Desk, Result<(), RunFault>, u64)
+    requires core { (core.board.table ≡ N.made.table) × (core.board.sizes ≡ N.made.sizes) }
+    requires desk { (desk.table ≡ N.made.table) × (desk.sizes ≡ N.made.sizes) }
+    requires sizes { N.made.sizes ≡ program_sizes }
+    requires passes { AreFresh N.made.table 64 passes.old.items }
+    ensures core { (result.0.board.table ≡ N.made.table) × (result.0.board.sizes ≡ N.made.sizes) }
+    ensures desk { (result.1.table ≡ N.made.table) × (result.1.sizes ≡ N.made.sizes) }
+    ensures whos { whos passes.new.items ≡ whos passes.old.items }
+    ensures rested { All (Rested N.made.table) passes.new.items }
+{
+    let manager = Manager::<N>::new(core, desk);
+    let (ran, ran_out) = run_watched(rt, alloc, script, &manager, passes.as_mut_slice(), watch);
+    let (core, desk) = manager.into_parts();
+    (core, desk, ran, ran_out)
+}
+
+fn close(core: Core, desk: Desk, passes: Vec<Pass>) -> History
+    requires table { desk.table ≡ core.board.table }
+    requires sizes { desk.sizes ≡ program_sizes }
+    requires whos { whos passes.items ≡ lane_numbers 64 }
+    requires rested { All (Rested desk.table) passes.items }
+{
+    desk.known();
+    desk.close(core, passes)
+}
+
+/// Runs a script with a gate that sees the manager. Beside its history, how many holds ran out.
+pub(crate) fn watched<R: Threads + Wait + Sync + Abort>(
+    rt: &R,
+    alloc: Global,
+    script: &Script,
+    watch: &Watch,
+) -> (History, u64) {
+    let (core, desk, mut passes) = match Desk::new(alloc, PROGRAM_SIZES) {
+        Ok(made) => made,
+        Err(_) => panic!(rt; "the sizes are good"),
+    };
+    let (core, desk, ran, ran_out) = within::<Brand, R>(
+        rt,
+        alloc,
+        script,
+        core,
+        desk,
+        &mut passes,
+        watch,
+    );
+    let history = close(core, desk, passes);
+    assert!(rt; ran.is_ok());
+    (history, ran_out)
+}
