@@ -397,13 +397,14 @@ impl Rows {
         self.split_by::<Brand>(seat, refs)
     }
 
-    /// All references and owned rows of `other` move to the first seat. Two loads of word 0.
+    /// All references and owned rows of `other` move to the first seat, whose list loses the number of `other`. Two loads of word 0.
     pub fn join(&self, seat: &mut RowSeat, other: RowSeat)
         requires table { (seat.old.table ≡ self.now) × (other.table ≡ self.now) }
         requires first { (seat.old.view.number ≡ 1) × (2 ≤ other.view.number) }
         requires room { length (seat.old.view.refs ++ other.view.refs) ≤ 2 ^ 32 }
         ensures same { OnlyViewChanges seat.old seat.new }
         ensures view { seat.new.view ≡ joined seat.old.view other.view }
+        ensures listed { (cap : ℕ) × (find other.view.number seat.old.view.out ≡ some cap) }
         ensures apart { (r : ℕ) (e : Entry) → find r other.view.owned ≡ some e
             → (find r seat.old.view.owned ≡ none) × (find r seat.new.view.owned ≡ some e) }
     {
