@@ -1,1 +1,2 @@
 mod Planting
+mod Shrinking

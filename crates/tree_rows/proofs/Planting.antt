@@ -98,7 +98,7 @@ each-put P (y ∷ xs) ys x h p = (h.0, each-put P xs ys x h.1 p)
 pub each-inserted : (P : Row → Type 0) (x : Row) (xs ys : List Row) → Inserted x xs ys → Each P xs → P x → Each P ys
 each-inserted P x xs ys i h p = subst (Each P) (sym i.new) (each-put P i.front i.back x (subst (Each P) i.old h) p)
 
-longer : (xs ys : List Row) (x : Row) → length (xs ++ x ∷ ys) ≡ suc (length (xs ++ ys))
+pub longer : (xs ys : List Row) (x : Row) → length (xs ++ x ∷ ys) ≡ suc (length (xs ++ ys))
 longer [] ys x = refl
 longer (y ∷ xs) ys x = ap suc (longer xs ys x)
 
@@ -172,12 +172,12 @@ planted-more p s m n c d e t u rs xs ys k r id it h less i is more keeps table r
 }
 
 -- a tree with a root has items
-no-tree : (level : ℕ) (t : Row) → Stands level t [] → ⊥
+pub no-tree : (level : ℕ) (t : Row) → Stands level t [] → ⊥
 no-tree zero t h = h.greatest.among
 no-tree (suc l) t h = h.greatest.among
 
 -- where all references but that to a root are gone, there is that one alone
-single : (r : ℕ) (ts : List Row) → tree_word (tree_of r ts) ≡ suc r → without_tree r ts ≡ [] → (u : Row) × (ts ≡ u ∷ []) × (tree_word u ≡ suc r)
+pub single : (r : ℕ) (ts : List Row) → tree_word (tree_of r ts) ≡ suc r → without_tree r ts ≡ [] → (u : Row) × (ts ≡ u ∷ []) × (tree_word u ≡ suc r)
 single r [] h e = absurd (omega arith)
 single r (t ∷ ts) h e = ⊎_elim (λ b. (t, ap (λ ts. t ∷ ts) (rw b.0 at e), b.1)) (λ b. absurd (cons-nil t (without_tree r ts) (rw b.0 at e)))
     (eqb_tells (tree_word t) (suc r))

@@ -1,5 +1,7 @@
-//! Tests of trees together with their searches and the list of reads. There is nothing else here.
+//! Tests of trees together with their searches and with removal. There is nothing else here.
 #![tactic(auto)]
 
+#[cfg(test)]
+mod removal;
 #[cfg(test)]
 mod tests;

@@ -1,7 +1,6 @@
 // Searches in trees, against plain lists.
-ghost use Rattle.std.specs.Prelude.{◌≡◌, ℕ, suc, ◌<◌, ◌≤◌, List, [], length, IfOk};
-ghost use Rattle.row_pool.specs.Trees.{Tree as Row, tree_word};
-ghost use Rattle.row_pool.specs.Changes.{tree_of};
+ghost use Rattle.std.specs.Prelude.{◌≡◌, ℕ, ◌<◌, ◌≤◌, List, [], length, IfOk};
+ghost use Rattle.row_pool.specs.Trees.{Tree as Row};
 ghost use Rattle.row_pool.specs.SeatState.{SameSeat};
 ghost use Rattle.latch_item.specs.Shape.{Refers};
 ghost use Rattle.tree_rows.specs.Planting.{OwnsChain, Planted, Shown, NewItem};
@@ -16,7 +15,7 @@ use std::alloc::Global;
 use std::test::Fail;
 
 /// The keys from `a` up to `b`, or the key `a` alone where b isn't greater. Keys have four bytes, so they are ordered as numbers.
-fn span_of(alloc: Global, a: u32, b: u32) -> Result<Span, Memory> {
+pub(crate) fn span_of(alloc: Global, a: u32, b: u32) -> Result<Span, Memory> {
     let key = key_of(alloc, a)?;
     if b <= a {
         return Ok(Span::point(key));
@@ -159,7 +158,7 @@ fn queries(
     Ok(good)
 }
 
-fn new_pool(alloc: Global, n: u32) -> Result<(Rows, RowSeat, Chain), Memory>
+pub(crate) fn new_pool(alloc: Global, n: u32) -> Result<(Rows, RowSeat, Chain), Memory>
     requires { (1 ≤ n) × (n ≤ 4194304) }
     ensures owns { IfOk result (λ r. (rs : List ℕ) × OwnsChain r.0 r.1 r.2 rs × (r.1.view.refs ≡ [])) }
     ensures first { IfOk result (λ r. (r.1.view.number ≡ 1) × (r.1.view.out ≡ [])) }
@@ -183,26 +182,26 @@ fn new_item(rows: &Rows, seat: &mut RowSeat, chain: &mut Chain, id: u64, span: &
     row
 }
 
-/// A latch goes into the tree, where there is room.
-fn add(
+/// A latch goes into the tree, where there is room. The answer is its row.
+pub(crate) fn add(
     rows: &Rows,
     seat: &mut RowSeat,
     chain: &mut Chain,
     tree: &mut Tree,
     id: u64,
     span: &Span,
-) -> bool
+) -> Option<u32>
     requires stand { (rs : List ℕ) × (xs : List Row) × (n : ℕ) × Planted rows.now seat.old chain.old tree.old rs xs n × (n < id) }
     ensures stand { (rs : List ℕ) (xs : List Row) (n : ℕ) → Planted rows.now seat.old chain.old tree.old rs xs n → n < id
         → (us : List ℕ) × (ys : List Row) × Planted rows.now seat.new chain.new tree.new us ys id }
     ensures same_seat { SameSeat seat.old.view seat.new.view }
 {
     if chain.len() < 8 || tree.len() >= 8190 {
-        return false;
+        return None;
     }
     let row = new_item(rows, seat, chain, id, span);
     tree.insert(rows, seat, row, chain);
-    true
+    Some(row)
 }
 
 /// The latches of a sort go into the tree.
@@ -224,7 +223,7 @@ fn grow(
         let (a, b) = bounds(sort, i);
         let span = span_of(alloc, a, b)?;
         let added = add(rows, seat, chain, tree, i as u64 + 1, &span);
-        good = good && added;
+        good = good && added.is_some();
     }
     Ok(good)
 }
@@ -250,7 +249,7 @@ fn give_up(rows: &Rows, seat: &mut RowSeat, chain: &mut Chain, shot: &Shot)
     }
 }
 
-fn close_all(rows: Rows, seat: RowSeat, chain: Chain)
+pub(crate) fn close_all(rows: Rows, seat: RowSeat, chain: Chain)
     requires owns { (rs : List ℕ) × OwnsChain rows seat chain rs × (seat.view.refs ≡ []) }
     requires first { (seat.view.number ≡ 1) × (seat.view.out ≡ []) }
 {
