@@ -1,0 +1,184 @@
+-- Shots of both scopes' trees.
+use Rattle.std.proofs.Common.{◌≡◌, ℕ, ◌≤◌, true, false, Bool, if◌then◌else◌, List, [], ◌∷◌, ◌++◌, length, ap, sym, refl, ◌∙◌, subst, arith}
+use Rattle.std.specs.Prelude.{Option, None, Some}
+use Rattle.std.specs.List.{All}
+use Rattle.std.proofs.lemmas.List.{append-nil, append_assoc, length-append}
+use Rattle.std.proofs.lemmas.List.Elements.{All-nil}
+use Rattle.latch_model.specs.Histories.{HeldLatch, Snapshot, in_order}
+use Rattle.latch_model.specs.declared.latch.Access.{Access}
+use Rattle.latch_model.specs.declared.latch.Access.TheVariants.{Read, Write}
+use Rattle.row_pool.specs.Lists.{find}
+use Rattle.row_pool.specs.SeatView.{SeatView}
+use Rattle.row_pool.specs.Trees.{Tree as Row}
+use Rattle.row_pool.specs.Views.{ViewInvariant}
+use Rattle.latch_item.specs.Items.{item_of}
+use Rattle.latch_item.specs.Shape.{RefersTo, Sorted}
+use Rattle.interval_tree.specs.Trees.{height_of, root_of}
+use Rattle.interval_tree.specs.declared.tree.Tree.{Tree}
+use Rattle.read_list.proofs.Links.{list-stays}
+use Rattle.latch_shots.specs.Held.{held_as, held_in}
+use Rattle.latch_item.specs.declared.shot.Shot.{Shot}
+use Rattle.span_key.specs.declared.scopes.Scope.TheVariants.{Global, Local}
+use Rattle.latch_model.specs.Latches.{in_scope}
+use Rattle.latch_shots.specs.Shown.{Show, root_of as shot_root}
+use Rattle.latch_shots.specs.Roots.{AreRoots, Root}
+use Rattle.held_latches.specs.Content.{Content, held_of, items_in, placed_items, read_items}
+use Rattle.held_latches.specs.Holding.{HoldsFlushed, InScopes, Kept}
+use Rattle.held_latches.specs.Lists.{shown_if, taken_if}
+use Rattle.held_latches.specs.Steps.{CanShow, PoolHas, SameRows}
+use Rattle.held_latches.specs.Stock.{rows_of, tree_root, with_row}
+use Rattle.held_latches.specs.declared.held.HeldLatches.{HeldLatches}
+use Rattle.held_latches.specs.declared.pool.Pool.{Pool}
+use Rattle.held_latches.proofs.Order.{sorted_order}
+use Rattle.held_latches.proofs.References.{one-refs, pick, refers-in}
+
+-- the rows of four shots, one after another
+pub rows-four : (a b c d : Option ℕ)
+    → ((([] ++ with_row a []) ++ with_row b []) ++ with_row c []) ++ with_row d [] ≡ with_row a (with_row b (with_row c (with_row d [])))
+rows-four None None None d = refl
+rows-four None None (Some z) d = refl
+rows-four None (Some y) None d = refl
+rows-four None (Some y) (Some z) d = refl
+rows-four (Some x) None None d = refl
+rows-four (Some x) None (Some z) d = refl
+rows-four (Some x) (Some y) None d = refl
+rows-four (Some x) (Some y) (Some z) d = refl
+
+-- the items of a tree are in order
+refers-sorted : (v : SeatView) (root : Option ℕ) (height : ℕ) (xs : List Row) → RefersTo v root height xs → Sorted xs
+refers-sorted v None height xs h = subst Sorted (sym h) tt
+refers-sorted v (Some r) height xs h = h.1.sorted
+
+pub tree-sorted : (v : SeatView) (tree : Tree) (items : List Row) (front back : List Root) → ViewInvariant v
+    → AreRoots (front ++ tree_root tree items ∷ back) v.refs → Sorted items
+tree-sorted v tree items front back sound h =
+    refers-sorted v (root_of tree) (height_of tree) items (refers-in v (root_of tree) (height_of tree) items
+    (pick front (tree_root tree items) back v.refs (one-refs v sound) h).refers)
+
+held-items : (a : Access) (ts : List Row) → held_of a (items_in ts) ≡ held_in a ts
+held-items a [] = refl
+held-items a (t ∷ ts) = ap (λ l. held_as a (item_of t) ∷ l) (held-items a ts)
+
+pub list-shown : (a : Access) (ts : List Row) → Sorted ts → in_order (held_of a (items_in ts)) ≡ held_in a ts
+list-shown a ts h = ap in_order (held-items a ts) ∙ sorted_order a ts h
+
+-- the latches of a list, where they are wanted
+pub shown-if : (wanted : Bool) (a : Access) (xs : List HeldLatch) (ts : List Row) → (wanted ≡ true → xs ≡ held_in a ts)
+    → taken_if wanted xs ≡ held_in a (if wanted then ts else [])
+shown-if true a xs ts h = h refl
+shown-if false a xs ts h = refl
+
+pub all-if : (wanted : Bool) (P : HeldLatch → Type 0) (xs : List HeldLatch) → All P xs → All P (taken_if wanted xs)
+all-if true P xs h = h
+all-if false P xs h = All-nil P
+
+pub reads-shown : (xs : List HeldLatch) (c : Content) → xs ≡ in_order (held_of Read (read_items c))
+    → Sorted c.reads → c.pending ≡ [] → xs ≡ held_in Read c.reads
+reads-shown xs c is sorted none =
+    is ∙ ap (λ ps. in_order (held_of Read (items_in c.reads ++ placed_items ps))) none
+    ∙ ap (λ l. in_order (held_of Read l)) (append-nil (items_in c.reads)) ∙ list-shown Read c.reads sorted
+
+-- ---- the pool changes in nothing but references and seats that are split off
+pub kept-still : (h : HeldLatches) (p : Pool) (g l : Content) → Kept h g l → SameRows h.pool p
+    → PoolHas p (tree_root h.global.writes g.writes ∷ tree_root h.global.reads g.reads ∷ tree_root h.local.writes l.writes
+    ∷ tree_root h.local.reads l.reads ∷ []) (g.pending ++ l.pending) → Kept (record h { pool = p }) g l
+kept-still h p g l k same stock = record {
+  stock = stock;
+  fits_global = k.fits_global;
+  fits_local = k.fits_local;
+  listed_global = list-stays h.pool.seat.view p.seat.view h.global.pending (rows_of g.pending) (λ q m. ap (find q) same.1) k.listed_global;
+  listed_local = list-stays h.pool.seat.view p.seat.view h.local.pending (rows_of l.pending) (λ q m. ap (find q) same.1) k.listed_local;
+  sound_global = k.sound_global;
+  sound_local = k.sound_local;
+  set_aside = (let a = k.set_aside in let b = ap (λ c. c.len) same.0 in omega arith);
+  few = k.few;
+}
+
+pub rows-then : (p q r : Pool) → SameRows p q → SameRows q r → SameRows p r
+rows-then p q r f g = (g.0 ∙ f.0, g.1 ∙ f.1)
+
+-- ---- what each shot finds: the roots of both scopes, behind those of the shots before
+abbrev pub Shown : HeldLatches → Pool → Content → Content → List Root → Type 0
+Shown h p g l shots = PoolHas p (shots ++ (tree_root h.global.writes g.writes ∷ tree_root h.global.reads g.reads ∷ tree_root h.local.writes l.writes
+    ∷ tree_root h.local.reads l.reads ∷ [])) (g.pending ++ l.pending)
+
+pub show-global-writes : (h : HeldLatches) (p : Pool) (g l : Content) (shots : List Root) → Kept h g l → length shots ≤ 4 → Shown h p g l shots
+    → CanShow p h.global.writes shots (tree_root h.global.reads g.reads ∷ tree_root h.local.writes l.writes ∷ tree_root h.local.reads l.reads ∷ [])
+    g.writes (g.pending ++ l.pending)
+show-global-writes h p g l shots k few stock = record { stock = stock; fits = k.fits_global.0; few = omega arith }
+
+pub show-global-reads : (h : HeldLatches) (p : Pool) (g l : Content) (shots : List Root) → Kept h g l → length shots ≤ 4 → Shown h p g l shots
+    → CanShow p h.global.reads (shots ++ tree_root h.global.writes g.writes ∷ []) (tree_root h.local.writes l.writes ∷ tree_root h.local.reads l.reads ∷ [])
+    g.reads (g.pending ++ l.pending)
+show-global-reads h p g l shots k few stock = record {
+  stock = subst (λ rs. PoolHas p rs (g.pending ++ l.pending)) (sym (append_assoc shots (tree_root h.global.writes g.writes ∷ [])
+      (tree_root h.global.reads g.reads ∷ tree_root h.local.writes l.writes ∷ tree_root h.local.reads l.reads ∷ []))) stock;
+  fits = k.fits_global.1;
+  few = (let a = length-append shots (tree_root h.global.writes g.writes ∷ []) in omega arith);
+}
+
+pub show-local-writes : (h : HeldLatches) (p : Pool) (g l : Content) (shots : List Root) → Kept h g l → length shots ≤ 4 → Shown h p g l shots
+    → CanShow p h.local.writes (shots ++ tree_root h.global.writes g.writes ∷ tree_root h.global.reads g.reads ∷ []) (tree_root h.local.reads l.reads ∷ [])
+    l.writes (g.pending ++ l.pending)
+show-local-writes h p g l shots k few stock = record {
+  stock = subst (λ rs. PoolHas p rs (g.pending ++ l.pending))
+      (sym (append_assoc shots (tree_root h.global.writes g.writes ∷ tree_root h.global.reads g.reads ∷ [])
+      (tree_root h.local.writes l.writes ∷ tree_root h.local.reads l.reads ∷ []))) stock;
+  fits = k.fits_local.0;
+  few = (let a = length-append shots (tree_root h.global.writes g.writes ∷ tree_root h.global.reads g.reads ∷ []) in omega arith);
+}
+
+pub show-local-reads : (h : HeldLatches) (p : Pool) (g l : Content) (shots : List Root) → Kept h g l → length shots ≤ 4 → Shown h p g l shots
+    → CanShow p h.local.reads (shots ++ tree_root h.global.writes g.writes ∷ tree_root h.global.reads g.reads ∷ tree_root h.local.writes l.writes ∷ []) []
+    l.reads (g.pending ++ l.pending)
+show-local-reads h p g l shots k few stock = record {
+  stock = subst (λ rs. PoolHas p rs (g.pending ++ l.pending)) (sym (append_assoc shots
+      (tree_root h.global.writes g.writes ∷ tree_root h.global.reads g.reads ∷ tree_root h.local.writes l.writes ∷ [])
+      (tree_root h.local.reads l.reads ∷ []))) stock;
+  fits = k.fits_local.1;
+  few = (let a = length-append shots (tree_root h.global.writes g.writes ∷ tree_root h.global.reads g.reads ∷ tree_root h.local.writes l.writes ∷ [])
+      in omega arith);
+}
+
+-- ---- all four shots
+-- the roots of the shots that are wanted of both scopes
+abbrev pub shots_if : Bool → Bool → Bool → Bool → Content → Content → (global_reads global_writes local_reads local_writes : Shot) → List Root
+shots_if global global_write local local_write g l gr gw lr lw =
+    shot_root gr (if global_write then g.reads else []) ∷ shot_root gw (if global then g.writes else [])
+    ∷ shot_root lr (if local_write then l.reads else []) ∷ shot_root lw (if local then l.writes else []) ∷ []
+
+pub shows-all : (h : HeldLatches) (v w : SeatView) (s : Snapshot) (n k : ℕ) (global global_write local local_write : Bool) (gr gw lr lw : Shot)
+    → (o : HoldsFlushed h s n k global_write local_write) → ViewInvariant h.pool.seat.view
+    → AreRoots (shots_if global global_write local local_write o.holds.global o.holds.local gr gw lr lw) w.refs → 2 ≤ w.number → w.owned ≡ []
+    → InScopes s → Show w gr gw lr lw (shown_if global global_write local local_write s)
+shows-all h v w s n spare global global_write local local_write gr gw lr lw o sound roots number owned scopes =
+    let g = o.holds.global in let l = o.holds.local in let k = o.holds.kept in let u = h.pool.seat.view in
+    let GW = tree_root h.global.writes g.writes in let GR = tree_root h.global.reads g.reads in
+    let LW = tree_root h.local.writes l.writes in let LR = tree_root h.local.reads l.reads in
+    record {
+      split_off = number;
+      alone = owned;
+      items_global_reads = if global_write then g.reads else [];
+      items_global_writes = if global then g.writes else [];
+      items_local_reads = if local_write then l.reads else [];
+      items_local_writes = if local then l.writes else [];
+      roots = roots;
+      are_global_reads = shown-if global_write Read s.global_reads g.reads
+          (λ e. reads-shown s.global_reads g o.holds.global_reads
+          (tree-sorted u h.global.reads g.reads (GW ∷ []) (LW ∷ LR ∷ []) sound k.stock.refs) (o.no_global e));
+      are_global_writes = shown-if global Write s.global_writes g.writes
+          (λ e. o.holds.global_writes ∙ list-shown Write g.writes (tree-sorted u h.global.writes g.writes [] (GR ∷ LW ∷ LR ∷ []) sound k.stock.refs));
+      are_local_reads = shown-if local_write Read s.local_reads l.reads
+          (λ e. reads-shown s.local_reads l o.holds.local_reads
+          (tree-sorted u h.local.reads l.reads (GW ∷ GR ∷ LW ∷ []) [] sound k.stock.refs) (o.no_local e));
+      are_local_writes = shown-if local Write s.local_writes l.writes
+          (λ e. o.holds.local_writes ∙ list-shown Write l.writes (tree-sorted u h.local.writes l.writes (GW ∷ GR ∷ []) (LR ∷ []) sound k.stock.refs));
+      global_scope = (
+        all-if global_write (λ (x : HeldLatch). in_scope Global x.latch ≡ true) s.global_reads scopes.global.0,
+        all-if global (λ (x : HeldLatch). in_scope Global x.latch ≡ true) s.global_writes scopes.global.1,
+      );
+      local_scope = (
+        all-if local_write (λ (x : HeldLatch). in_scope Local x.latch ≡ true) s.local_reads scopes.local.0,
+        all-if local (λ (x : HeldLatch). in_scope Local x.latch ≡ true) s.local_writes scopes.local.1,
+      );
+    }

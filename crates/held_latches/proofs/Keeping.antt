@@ -1,0 +1,224 @@
+-- One scope changes, and the other stays.
+use Rattle.std.proofs.Common.{◌≡◌, ⊎_elim, ℕ, suc, ◌+◌, ◌<◌, ◌≤◌, true, false, true≢false, Bool, cond, List, [], ◌∷◌, ◌++◌, length, ap, sym, ◌∙◌, subst, arith}
+use Rattle.std.proofs.lemmas.List.{append-nil}
+use Rattle.latch_model.specs.Histories.{HeldLatch, Snapshot, comes_first, in_order, with_latch}
+use Rattle.latch_model.specs.declared.latch.Access.{Access}
+use Rattle.latch_model.specs.declared.latch.Access.TheVariants.{Read, Write}
+use Rattle.row_pool.specs.Lists.{mem}
+use Rattle.row_pool.specs.Trees.{Tree as Row, tree_word}
+use Rattle.latch_item.specs.Items.{Item, item_of}
+use Rattle.latch_item.specs.Shape.{Among}
+use Rattle.read_list.proofs.Links.{list-stays}
+use Rattle.latch_shots.specs.Held.{held_as}
+use Rattle.held_latches.specs.Content.{AllApart, Content, EachOf, IsIn, held_of, items_in, placed_items, read_items}
+use Rattle.held_latches.specs.Holding.{EachHeld, Filed, HasSpare, Holds, HoldsFlushed, IsSound, Kept}
+use Rattle.held_latches.specs.Scopes.{Around, Flushing, ScopeHas, aside_of, many_of}
+use Rattle.held_latches.specs.Steps.{PoolHas, SamePool, Stay, free_rows}
+use Rattle.held_latches.specs.Stock.{Placed, rows_of, tree_root}
+use Rattle.held_latches.specs.declared.held.HeldLatches.{HeldLatches}
+use Rattle.held_latches.specs.declared.pool.Pool.{Pool}
+use Rattle.held_latches.specs.declared.scopes.ScopeTrees.{ScopeTrees}
+use Rattle.row_pool.proofs.Chains.{mem-left, mem-right}
+use Rattle.held_latches.proofs.Contents.{each-append}
+use Rattle.held_latches.proofs.Stocks.{rows-append}
+
+-- ---- what holds of each held latch holds of each item
+each_with : (P : HeldLatch → Type 0) (x : HeldLatch) (ys : List HeldLatch) → EachOf P (with_latch x ys) → P x × EachOf P ys
+each_with P x [] h = (h.0, tt)
+each_with P x (y ∷ ys) h = by (comes_first y x) h (each_with P x ys)
+  where
+    by : (t : Bool) → EachOf P (cond t (y ∷ with_latch x ys) (x ∷ y ∷ ys)) → (EachOf P (with_latch x ys) → P x × EachOf P ys) → P x × EachOf P (y ∷ ys)
+    by true h later = let o = later h.1 in (o.0, (h.0, o.1))
+    by false h later = h
+
+pub each-ordered : (P : HeldLatch → Type 0) (xs : List HeldLatch) → EachOf P (in_order xs) → EachOf P xs
+each-ordered P [] h = tt
+each-ordered P (x ∷ xs) h = let o = each_with P x (in_order xs) h in (o.0, each-ordered P xs o.1)
+
+pub each-held : (P : HeldLatch → Type 0) (a : Access) (xs : List Item) → EachOf P (held_of a xs) → EachOf (λ x. P (held_as a x)) xs
+each-held P a [] h = tt
+each-held P a (x ∷ xs) h = (h.0, each-held P a xs h.1)
+
+pub each-among : (P : Item → Type 0) (ts : List Row) → EachOf P (items_in ts) → (t : Row) → Among t ts → P (item_of t)
+each-among P [] h t m = absurd m
+each-among P (u ∷ us) h t m = ⊎_elim (λ z. subst (λ (k : Row). P (item_of k)) z h.0) (λ n. each-among P us h.1 t n) m
+
+pub each-placed : (P : Item → Type 0) (ps : List Placed) → EachOf P (placed_items ps) → (p : Placed) → IsIn p ps → P p.item
+each-placed P [] h p m = absurd m
+each-placed P (q ∷ qs) h p m = ⊎_elim (λ z. subst (λ (k : Placed). P k.item) z h.0) (λ n. each-placed P qs h.1 p n) m
+
+-- ---- each scope among both
+unfoldable pub around-global : HeldLatches → Content → Around
+around-global h l = record {
+  front = [];
+  back = tree_root h.local.writes l.writes ∷ tree_root h.local.reads l.reads ∷ [];
+  before = [];
+  after = l.pending;
+  few = omega arith;
+}
+
+unfoldable pub around-local : HeldLatches → Content → Around
+around-local h g = record {
+  front = tree_root h.global.writes g.writes ∷ tree_root h.global.reads g.reads ∷ [];
+  back = [];
+  before = g.pending;
+  after = [];
+  few = omega arith;
+}
+
+pub kept-global : (h : HeldLatches) (g l : Content) → Kept h g l → ScopeHas h.pool h.global g (around-global h l)
+unfolding around-global
+kept-global h g l k = record { stock = k.stock; fits_writes = k.fits_global.0; fits_reads = k.fits_global.1; listed = k.listed_global }
+
+pub kept-local : (h : HeldLatches) (g l : Content) → Kept h g l → ScopeHas h.pool h.local l (around-local h g)
+unfolding around-local
+kept-local h g l k = record {
+  stock = subst (λ ps. PoolHas h.pool (tree_root h.global.writes g.writes ∷ tree_root h.global.reads g.reads
+      ∷ tree_root h.local.writes l.writes ∷ tree_root h.local.reads l.reads ∷ []) (g.pending ++ ps)) (sym (append-nil l.pending)) k.stock;
+  fits_writes = k.fits_local.0;
+  fits_reads = k.fits_local.1;
+  listed = k.listed_local;
+}
+
+pub global-changed : (h : HeldLatches) (p : Pool) (t : ScopeTrees) (g l d : Content) → Kept h g l → ScopeHas p t d (around-global h l)
+    → Stay l.pending h.pool p → IsSound t h.rows.items d → aside_of d + aside_of l ≤ free_rows p → many_of d + many_of l ≤ 8190
+    → Kept (record h { pool = p; global = t }) d l
+unfolding around-global
+global-changed h p t g l d k o stay sound aside few = record {
+  stock = o.stock;
+  fits_global = (o.fits_writes, o.fits_reads);
+  fits_local = k.fits_local;
+  listed_global = o.listed;
+  listed_local = list-stays h.pool.seat.view p.seat.view h.local.pending (rows_of l.pending) stay k.listed_local;
+  sound_global = sound;
+  sound_local = k.sound_local;
+  set_aside = aside;
+  few = few;
+}
+
+pub local-changed : (h : HeldLatches) (p : Pool) (t : ScopeTrees) (g l d : Content) → Kept h g l → ScopeHas p t d (around-local h g)
+    → Stay (g.pending ++ []) h.pool p → IsSound t h.rows.items d → aside_of g + aside_of d ≤ free_rows p → many_of g + many_of d ≤ 8190
+    → Kept (record h { pool = p; local = t }) g d
+unfolding around-local
+local-changed h p t g l d k o stay sound aside few = record {
+  stock = subst (λ ps. PoolHas p (tree_root h.global.writes g.writes ∷ tree_root h.global.reads g.reads
+      ∷ tree_root t.writes d.writes ∷ tree_root t.reads d.reads ∷ []) (g.pending ++ ps)) (append-nil d.pending) o.stock;
+  fits_global = k.fits_global;
+  fits_local = (o.fits_writes, o.fits_reads);
+  listed_global = list-stays h.pool.seat.view p.seat.view h.global.pending (rows_of g.pending)
+      (λ q m. stay q (subst (λ l. mem q l ≡ true) (ap rows_of (sym (append-nil g.pending))) m)) k.listed_global;
+  listed_local = o.listed;
+  sound_global = k.sound_global;
+  sound_local = sound;
+  set_aside = aside;
+  few = few;
+}
+
+-- ---- the pending reads are in the tree
+pub sound-flushed : (p q : Pool) (s t : ScopeTrees) (table : List ℕ) (c d : Content) (a : Around) (id : ℕ) → IsSound s table c → Flushing p q s t c d a
+    → d.pending ≡ [] → t.writer ≡ id → EachOf (λ x. x.id < id) (read_items c) → IsSound t table d
+sound-flushed p q s t table c d a id o f none writer low = record {
+  writes_apart = subst (λ ts. AllApart (items_in ts)) (sym f.writes.1) o.writes_apart;
+  reads_apart = f.apart;
+  filed_writes = λ u m. o.filed_writes u (subst (Among u) f.writes.1 m);
+  filed_reads = λ u m row here. ⊎_elim (λ n. o.filed_reads u n row here)
+      (λ (n : (x : Placed) × IsIn x c.pending × (tree_word u ≡ suc x.row) × (item_of u ≡ x.item)).
+      let same : n.0.row ≡ row = (let b = n.2 in let e = here in omega arith) in
+      subst (λ y. Filed table row y) (sym n.3) (subst (λ r. Filed table r n.0.item) same (o.filed_pending n.0 n.1))) (f.came u m);
+  filed_pending = λ x m. absurd (nothing x m);
+  early = λ u m. subst (λ k. (item_of u).id < k) (sym writer) (⊎_elim (λ n. each-among (λ x. x.id < id) c.reads parts.0 u n)
+      (λ (n : (x : Placed) × IsIn x c.pending × (tree_word u ≡ suc x.row) × (item_of u ≡ x.item)).
+      subst (λ (y : Item). y.id < id) (sym n.3) (each-placed (λ x. x.id < id) c.pending parts.1 n.0 n.1)) (f.came u m));
+  late = λ x m. absurd (nothing x m);
+}
+  where
+    parts : EachOf (λ x. x.id < id) (items_in c.reads) × EachOf (λ x. x.id < id) (placed_items c.pending)
+    parts = each-append (λ x. x.id < id) (items_in c.reads) (placed_items c.pending) low
+
+    nothing : (x : Placed) → IsIn x d.pending → ⊥
+    nothing x m = subst (IsIn x) none m
+
+-- the held latches are the same while pending reads go into the tree
+pub flushed-global : (h : HeldLatches) (p : Pool) (t : ScopeTrees) (s : Snapshot) (n m id : ℕ) (b : Bool) (o : HoldsFlushed h s n m false b)
+    → EachHeld (λ x. x.by < id) s
+    → (d : Content) × Flushing h.pool p h.global t o.holds.global d (around-global h o.holds.local) × (d.pending ≡ []) → t.writer ≡ id → SamePool h.pool p
+    → HoldsFlushed (record h { pool = p; global = t }) s n m true b
+unfolding around-global
+flushed-global h p t s n m id b o low (d, f, none) writer same =
+    let k = o.holds.kept in let g = o.holds.global in let l = o.holds.local in
+    let lows = each-held (λ x. x.by < id) Read (read_items g)
+    (each-ordered (λ x. x.by < id) (held_of Read (read_items g)) (subst (EachOf (λ x. x.by < id)) o.holds.global_reads low.0)) in
+    let sound = sound-flushed h.pool p h.global t h.rows.items g d (around-global h l) id k.sound_global f none writer lows in
+    let long = ap (λ (ps : List Placed). length ps) none in let written = ap (λ (ts : List Row). length ts) f.writes.1 in
+    let kept = global-changed h p t g l d k f.has f.stay sound
+    (let x = k.set_aside in let y = f.spent in let z = f.many in omega arith) (let x = k.few in let z = f.many in omega arith) in
+    record {
+      holds = record {
+        global = d;
+        local = l;
+        kept = kept;
+        global_reads = o.holds.global_reads ∙ sym f.order;
+        global_writes = o.holds.global_writes ∙ ap (λ ts. in_order (held_of Write (items_in ts))) (sym f.writes.1);
+        local_reads = o.holds.local_reads;
+        local_writes = o.holds.local_writes;
+        out = ap (λ (l : List (ℕ × ℕ)). length l) same.1.out ∙ o.holds.out;
+      };
+      spare = (let x = o.spare in let y = f.spent in let z = f.many in omega arith);
+      no_global = λ e. none;
+      no_local = o.no_local;
+    }
+
+pub flushed-local : (h : HeldLatches) (p : Pool) (t : ScopeTrees) (s : Snapshot) (n m id : ℕ) (b : Bool) (o : HoldsFlushed h s n m b false)
+    → EachHeld (λ x. x.by < id) s
+    → (d : Content) × Flushing h.pool p h.local t o.holds.local d (around-local h o.holds.global) × (d.pending ≡ []) → t.writer ≡ id → SamePool h.pool p
+    → HoldsFlushed (record h { pool = p; local = t }) s n m b true
+unfolding around-local
+flushed-local h p t s n m id b o low (d, f, none) writer same =
+    let k = o.holds.kept in let g = o.holds.global in let l = o.holds.local in
+    let lows = each-held (λ x. x.by < id) Read (read_items l)
+    (each-ordered (λ x. x.by < id) (held_of Read (read_items l)) (subst (EachOf (λ x. x.by < id)) o.holds.local_reads low.2)) in
+    let sound = sound-flushed h.pool p h.local t h.rows.items l d (around-local h g) id k.sound_local f none writer lows in
+    let long = ap (λ (ps : List Placed). length ps) none in let written = ap (λ (ts : List Row). length ts) f.writes.1 in
+    let kept = local-changed h p t g l d k f.has f.stay sound
+    (let x = k.set_aside in let y = f.spent in let z = f.many in omega arith) (let x = k.few in let z = f.many in omega arith) in
+    record {
+      holds = record {
+        global = g;
+        local = d;
+        kept = kept;
+        global_reads = o.holds.global_reads;
+        global_writes = o.holds.global_writes;
+        local_reads = o.holds.local_reads ∙ sym f.order;
+        local_writes = o.holds.local_writes ∙ ap (λ ts. in_order (held_of Write (items_in ts))) (sym f.writes.1);
+        out = ap (λ (l : List (ℕ × ℕ)). length l) same.1.out ∙ o.holds.out;
+      };
+      spare = (let x = o.spare in let y = f.spent in let z = f.many in omega arith);
+      no_global = o.no_global;
+      no_local = λ e. none;
+    }
+
+pub not-flushed : (h : HeldLatches) (s : Snapshot) (n k : ℕ) → HasSpare h s n k → HoldsFlushed h s n k false false
+not-flushed h s n k o = record { holds = o.holds; spare = o.spare; no_global = λ e. absurd (true≢false (sym e)); no_local = λ e. absurd (true≢false (sym e)) }
+
+-- ---- rows come to the pool
+pub kept-more : (h : HeldLatches) (p : Pool) (g l : Content) → Kept h g l → PoolHas p (tree_root h.global.writes g.writes ∷ tree_root h.global.reads g.reads
+    ∷ tree_root h.local.writes l.writes ∷ tree_root h.local.reads l.reads ∷ []) (g.pending ++ l.pending) → Stay (g.pending ++ l.pending) h.pool p
+    → free_rows h.pool ≤ free_rows p → Kept (record h { pool = p }) g l
+kept-more h p g l k stock stay more = record {
+  stock = stock;
+  fits_global = k.fits_global;
+  fits_local = k.fits_local;
+  listed_global = list-stays h.pool.seat.view p.seat.view h.global.pending (rows_of g.pending)
+      (λ q m. stay q (subst (λ l. mem q l ≡ true) (sym (rows-append g.pending l.pending))
+      (mem-left q (rows_of g.pending) (rows_of l.pending) m))) k.listed_global;
+  listed_local = list-stays h.pool.seat.view p.seat.view h.local.pending (rows_of l.pending)
+      (λ q m. stay q (subst (λ l. mem q l ≡ true) (sym (rows-append g.pending l.pending))
+      (mem-right q (rows_of g.pending) (rows_of l.pending) m))) k.listed_local;
+  sound_global = k.sound_global;
+  sound_local = k.sound_local;
+  set_aside = (let a = k.set_aside in omega arith);
+  few = k.few;
+}
+
+pub none-spare : (h : HeldLatches) (s : Snapshot) (n : ℕ) → Holds h s n → HasSpare h s n 0
+none-spare h s n o = record { holds = o; spare = (let a = o.kept.set_aside in omega arith) }

@@ -1,0 +1,15 @@
+pub mod References
+pub mod Stocks
+pub mod Order
+pub mod Contents
+pub mod Flushes
+pub mod OneLatch
+pub mod Keeping
+pub mod OneRequest
+pub mod Capturing
+pub mod Adding
+pub mod Inserting
+pub mod Counting
+pub mod Beginning
+pub mod Taken
+pub mod Removing
