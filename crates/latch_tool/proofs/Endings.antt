@@ -1,6 +1,6 @@
 -- How runs end: what was read of a source, what was answered to it, and what a run that is done has written.
-use Rattle.std.proofs.Common.{◌≡◌, ◌≢◌, ℕ, ◌<◌, ◌⊎◌, inl, inr, Bool, codes, cond, IsTrue, List, [], length, Option, Some, None, IfSome, Result, Ok, Err}
-use Rattle.std.proofs.Common.{refl, sym, ap, subst, ◌∙◌}
+use Rattle.std.proofs.Common.{◌≡◌, ◌≢◌, ℕ, ◌<◌, ◌⊎◌, inl, inr, Bool, cond, IsTrue, List, [], length, Option, Some, None, IfSome, Result, Ok, Err}
+use Rattle.std.proofs.Common.{IfErr, IfOk, refl, sym, ap, subst, ◌∙◌}
 use Rattle.std.proofs.lemmas.Bool.{lt-ltb}
 use Rattle.std.specs.Io.KnownBytes.{Appends}
 use Rattle.port_io.specs.Devices.{AppendsPart, CountsFault, TakesMoreThan}
@@ -10,15 +10,21 @@ use Rattle.script.specs.Scripts.{IsScript, Spells}
 use Rattle.script.specs.declared.command.Command.{Command}
 use Rattle.script.specs.declared.limits.TheConstants.{TEXT_LIMIT}
 use Rattle.script.proofs.Laws.Scripts.{script_again, script_takes}
+use Rattle.step_run.specs.Faults.{ScriptLacks, StopsBy}
 use Rattle.step_run.specs.Steps.{step_output}
-use Rattle.latch_tool.specs.Outcomes.{AnswersBy, Decides, Ends, HasRead, HasScript, IsRead, Reading, Shows, WritesAll, WritesMade, WritesPart, WritesReplay}
-use Rattle.latch_tool.specs.Outcomes.{WritesSteps, made_line}
-use Rattle.latch_tool.specs.Words.{reads}
+use Rattle.step_run.specs.declared.fault.RunFault.{RunFault}
+use Rattle.step_run.specs.declared.fault.RunFault.TheVariants as run_faults
+use Rattle.latch_tool.specs.Outcomes.{AnswersBy, AnswersFault, Decides, Ends, EndsBy, EndsForRows, HasRead, HasScript, IsRead, RunLacks, ReadLacks}
+use Rattle.latch_tool.specs.Outcomes.{Reading, Shows, WritesAll, WritesMade, WritesPart, WritesReplay, WritesSteps, made_line, usage_line}
+use Rattle.latch_tool.specs.Words.{reads, takes_memory}
 use Rattle.latch_tool.specs.declared.form.Form.{Form}
 use Rattle.latch_tool.specs.declared.form.Form.TheVariants as form
 use Rattle.latch_tool.specs.declared.form.Layout.{Layout}
+use Rattle.latch_tool.specs.declared.run.Answer.{Answer}
+use Rattle.latch_tool.specs.declared.run.Stop.{Stop}
+use Rattle.latch_tool.specs.declared.run.Stop.TheVariants as stops
 use Rattle.latch_tool.specs.declared.status.Status.{Status}
-use Rattle.latch_tool.specs.declared.status.Status.TheVariants.{Done, Usage, Script, ReadFault, WriteFault, Memory}
+use Rattle.latch_tool.specs.declared.status.Status.TheVariants.{Done, Usage, Script, ReadFault, WriteFault, Memory, RowsOut}
 
 -- what is read from an input
 abbrev Read : Type 0
@@ -40,7 +46,7 @@ pub has_read_long : (source : Reading) → TakesMoreThan TEXT_LIMIT source.left 
 has_read_long source taken long =
     let read = long_input source.left source.left_after taken long in (read.0, read.1, read_long read.0 read.2)
 
--- What words and an input decide is no fault of a device, and no want of memory.
+-- What words and an input decide is no fault of a device, and no want of rows or memory.
 abbrev IsAnswer : Status → Type 0
 IsAnswer Done = Unit {0}
 IsAnswer Usage = Unit {0}
@@ -48,6 +54,7 @@ IsAnswer (Script line cause) = Unit {0}
 IsAnswer ReadFault = ⊥
 IsAnswer WriteFault = ⊥
 IsAnswer Memory = ⊥
+IsAnswer (RowsOut free need) = ⊥
 
 script_answer : (Writes : List Command → List ℕ → Type 0) (read : Read) (status : Status) (text : List ℕ) → AnswersBy Writes read status text → IsAnswer status
 script_answer Writes (Ok commands) status text answers = subst IsAnswer (sym answers.0) tt
@@ -69,6 +76,7 @@ decided_ends of source input (Script line cause) text read decides = (input, rea
 decided_ends of source input ReadFault text read decides = absurd (decided_answer of input ReadFault text decides)
 decided_ends of source input WriteFault text read decides = absurd (decided_answer of input WriteFault text decides)
 decided_ends of source input Memory text read decides = absurd (decided_answer of input Memory text decides)
+decided_ends of source input (RowsOut free need) text read decides = absurd (decided_answer of input (RowsOut free need) text decides)
 
 -- what was read, and what is answered to that, is how `step` ends, and `replay`
 pub step_ends : (source : Reading) (read : Read) (status : Status) (text : List ℕ) → HasRead source read
@@ -82,6 +90,44 @@ pub replay_ends : (layout : Layout) (source : Reading) (read : Read) (status : S
 replay_ends layout source read status text has answers =
     decided_ends (form.Replay layout) source has.0 status text (λ _. has.1)
     (subst (λ (r : Read). AnswersBy (Shows layout) r status text) (sym has.2) answers)
+
+-- ---- a run that lacked rows
+
+-- the rows that a script lacks are lacked by the form that runs it
+pub step_lacks : (source : Reading) (commands : List Command) (fault : RunFault) → HasRead source (Ok commands) → StopsBy (ScriptLacks commands) fault
+    → StopsBy (RunLacks form.Step source) fault
+step_lacks source commands (run_faults.RowsOut free need) has lacks =
+    (has.0, (λ _. has.1), subst (λ (r : Read). ReadLacks r free need) (sym has.2) lacks)
+step_lacks source commands run_faults.Memory has lacks = tt
+
+pub replay_lacks : (layout : Layout) (source : Reading) (commands : List Command) (fault : RunFault) → HasRead source (Ok commands)
+    → StopsBy (ScriptLacks commands) fault → StopsBy (RunLacks (form.Replay layout) source) fault
+replay_lacks layout source commands (run_faults.RowsOut free need) has lacks =
+    (has.0, (λ _. has.1), subst (λ (r : Read). ReadLacks r free need) (sym has.2) lacks)
+replay_lacks layout source commands run_faults.Memory has lacks = tt
+
+-- where the run of a form's script stopped, what is answered to that is how the run ends
+fault_ends : (of : Form) (source : Reading) (fault : RunFault) (status : Status) (text : List ℕ) → StopsBy (RunLacks of source) fault
+    → AnswersFault fault status text → Ends of source status text
+fault_ends of source (run_faults.RowsOut free need) status text lacks answers =
+    subst (λ (s : Status). Ends of source s text) (sym answers.0) (lacks, answers.1)
+fault_ends of source run_faults.Memory status text lacks answers = absurd answers
+
+pub stopped_ends : (of : Form) (source : Reading) (fault : RunFault) (answered : Result Answer Stop) → IsTrue (takes_memory of)
+    → StopsBy (RunLacks of source) fault → IfOk answered (λ a. AnswersFault fault a.status a.text.items) → IfErr answered (λ s. s ≡ stops.Memory)
+    → EndsBy of source answered
+stopped_ends of source fault (Ok a) takes lacks answers memory = fault_ends of source fault a.status a.text.items lacks answers
+stopped_ends of source fault (Err stops.ReadFault) takes lacks answers memory = absurd cc
+stopped_ends of source fault (Err stops.Memory) takes lacks answers memory = (takes, refl)
+
+fault_is_no_write_fault : (fault : RunFault) (status : Status) (text : List ℕ) → AnswersFault fault status text → status ≢ WriteFault
+fault_is_no_write_fault (run_faults.RowsOut free need) status text answers is = let r : RowsOut free need ≡ WriteFault = sym answers.0 ∙ is in cc
+fault_is_no_write_fault run_faults.Memory status text answers is = answers
+
+pub stopped_is_no_write_fault : (fault : RunFault) (answered : Result Answer Stop) → IfOk answered (λ a. AnswersFault fault a.status a.text.items)
+    → IfOk answered (λ a. a.status ≢ WriteFault)
+stopped_is_no_write_fault fault (Ok a) answers = fault_is_no_write_fault fault a.status a.text.items answers
+stopped_is_no_write_fault fault (Err stop) answers = tt
 
 -- how a run ends is no fault of the sink
 pub no_write_fault : (of : Form) (source : Reading) (status : Status) (text : List ℕ) → Ends of source status text → status ≢ WriteFault
@@ -137,25 +183,49 @@ script_is_done (form.Make requests) input commands status text r is decides = de
 script_is_done form.Help input commands status text r is decides = decides.0
 script_is_done form.Usage input commands status text r is decides = absurd cc
 
--- where a form has the script that it reads and the source does not fail, the run is done or memory was refused
+-- A run is done, or memory or rows were refused.
+abbrev pub Completes : Form → Reading → Status → Type 0
+Completes of source status = (status ≡ Done) ⊎ ((status ≡ Memory) ⊎ EndsForRows of source status)
+
+-- where a form has the script that it reads and the source does not fail, the run is done, or memory or rows were refused
 ends_done : (of : Form) (source : Reading) (status : Status) (text : List ℕ) → IsTrue (reads of) → HasScript source
-    → ¬ CountsFault source.faults source.faults_after → Ends of source status text → (status ≡ Done) ⊎ (status ≡ Memory)
-ends_done of source Memory text r has sound ends = inr refl
+    → ¬ CountsFault source.faults source.faults_after → Ends of source status text → Completes of source status
+ends_done of source Memory text r has sound ends = inr (inl refl)
+ends_done of source (RowsOut free need) text r has sound ends = inr (inr (free, need, refl, ends.0))
 ends_done of source ReadFault text r has sound ends = absurd (sound ends.1)
 ends_done of source WriteFault text r has sound ends = absurd ends
 ends_done of source status text r has sound ends =
     let is = read_script_is source.left source.left_after ends.0 has.0 has.1 has.2 has.3 (ends.1 r) in
     inl (script_is_done of ends.0 has.1 status text r is ends.2)
 
--- a run of a form that has the script that it reads, and whose devices do not fail, is done or memory was refused
+-- a run of a form that has the script that it reads, and whose devices do not fail, is done, or memory or rows were refused
 pub script_done : (of : Form) (source : Reading) (status : Status) (before now : Option (List ℕ)) → IsTrue (reads of) → HasScript source
-    → ¬ CountsFault source.faults source.faults_after → WritesAll of source status before now → (status ≡ Done) ⊎ (status ≡ Memory)
+    → ¬ CountsFault source.faults source.faults_after → WritesAll of source status before now → Completes of source status
 script_done of source status before now r has sound w = ends_done of source status w.0 r has sound w.1
 
 -- ---- `make` and `help`, which read nothing
 
 make_reads_nothing : (requests : ℕ) → IsTrue (reads (form.Make requests)) → ⊥
 make_reads_nothing requests r = cc
+
+-- the rows that a generated script lacks are lacked by the form that runs it
+pub made_lacks : (source : Reading) (requests : ℕ) (fault : RunFault) → StopsBy (ScriptLacks (generated requests)) fault
+    → StopsBy (RunLacks (form.Make requests) source) fault
+made_lacks source requests (run_faults.RowsOut free need) lacks = ([], (λ r. absurd (make_reads_nothing requests r)), lacks)
+made_lacks source requests run_faults.Memory lacks = tt
+
+-- the run is done, or memory or rows were refused
+made_ends_done : (source : Reading) (requests : ℕ) (status : Status) (text : List ℕ) → Ends (form.Make requests) source status text
+    → Completes (form.Make requests) source status
+made_ends_done source requests Memory text ends = inr (inl refl)
+made_ends_done source requests (RowsOut free need) text ends = inr (inr (free, need, refl, ends.0))
+made_ends_done source requests ReadFault text ends = absurd (make_reads_nothing requests ends.0)
+made_ends_done source requests WriteFault text ends = absurd ends
+made_ends_done source requests status text ends = inl ends.2.0
+
+pub made_done : (source : Reading) (requests : ℕ) (status : Status) (before now : Option (List ℕ))
+    → WritesAll (form.Make requests) source status before now → Completes (form.Make requests) source status
+made_done source requests status before now w = made_ends_done source requests status w.0 w.1
 
 -- the last line was written
 pub made_all : (source : Reading) (requests : ℕ) (status : Status) (text : List ℕ) (before now : Option (List ℕ)) → text ≡ made_line requests
@@ -173,18 +243,26 @@ made_part source requests text before now is written =
 pub done_is_no_write_fault : (status : Status) → status ≡ Done → status ≢ WriteFault
 done_is_no_write_fault status done e = let d : Done ≡ WriteFault = sym done ∙ e in absurd cc
 
-pub memory_is_not_done : (status : Status) → status ≡ Memory → status ≡ Done → ⊥
-memory_is_not_done status memory done = let d : Memory ≡ Done = sym memory ∙ done in cc
-
 -- the last line was written, and the script is one
 pub made_line_written : (requests : ℕ) (text : List ℕ) (before now : Option (List ℕ)) → IsScript (generated requests) → text ≡ made_line requests
     → Appends before now text → WritesMade requests before now
 made_line_written requests text before now script is written = (script, subst (Appends before now) is written)
 
--- a front of the line that says that memory was refused
-pub memory_part : (source : Reading) (requests : ℕ) (before now : Option (List ℕ)) → AppendsPart before now (codes "out of memory\n")
-    → WritesPart (form.Make requests) source before now
-memory_part source requests before now written = (Memory, codes "out of memory\n", (refl, refl), written)
+-- A source that is not read.
+abbrev pub no_reading : Reading
+no_reading = record { left = None; left_after = None; faults = 0; faults_after = 0 }
+
+-- what `make` writes in the end is the last line of the output of a script
+pub writes_made : (requests : ℕ) (before now : Option (List ℕ)) → IsScript (generated requests)
+    → WritesAll (form.Make requests) no_reading Done before now → WritesMade requests before now
+writes_made requests before now script w = (script, subst (Appends before now) w.1.2.1 w.2)
+
+-- a front of the usage line was written
+pub help_part : (source : Reading) (before now : Option (List ℕ)) → AppendsPart before now usage_line → WritesPart form.Help source before now
+help_part source before now written = (Done, usage_line, ([], (λ r. absurd cc), (refl, refl)), written)
+
+pub usage_part : (source : Reading) (before now : Option (List ℕ)) → AppendsPart before now usage_line → WritesPart form.Usage source before now
+usage_part source before now written = (Usage, usage_line, ([], (λ r. absurd cc), (refl, refl)), written)
 
 pub same_number : (m n : ℕ) → form.Make m ≡ form.Make n → m ≡ n
 same_number m n e = cc

@@ -10,8 +10,11 @@ use Rattle.script.specs.Reading.{script_at}
 use Rattle.script.specs.Scripts.{IsScript, Spells}
 use Rattle.script.specs.declared.command.Command.{Command}
 use Rattle.script.specs.declared.limits.TheConstants.{TEXT_LIMIT}
+use Rattle.step_run.specs.Faults.{ScriptLacks}
 use Rattle.step_run.specs.Lines.{last_line}
 use Rattle.step_run.specs.Steps.{step_output}
+use Rattle.step_run.specs.declared.fault.RunFault.{RunFault}
+use Rattle.step_run.specs.declared.fault.RunFault.TheVariants as run_faults
 use Rattle.latch_tool.specs.Replays.{IsRunOf}
 use Rattle.latch_tool.specs.Words.{reads, takes_memory}
 use Rattle.latch_tool.specs.declared.form.Form.{Form}
@@ -24,7 +27,7 @@ use Rattle.latch_tool.specs.declared.run.Input.TheVariants as inputs
 use Rattle.latch_tool.specs.declared.run.Stop.{Stop}
 use Rattle.latch_tool.specs.declared.run.Stop.TheVariants as stops
 use Rattle.latch_tool.specs.declared.status.Status.{Status}
-use Rattle.latch_tool.specs.declared.status.Status.TheVariants.{Done, Usage, Script, ReadFault, WriteFault, Memory}
+use Rattle.latch_tool.specs.declared.status.Status.TheVariants.{Done, Usage, Script, ReadFault, WriteFault, Memory, RowsOut}
 
 -- the usage line
 abbrev pub usage_line : List ℕ
@@ -33,6 +36,10 @@ usage_line = codes "usage: latch step | replay [--json] | make N | help\n"
 -- the line of the first fault of an input
 abbrev pub fault_line : ℕ → ℕ → List ℕ
 fault_line line cause = codes "script " ++ decimal line ++ 32 ∷ decimal cause ++ 10 ∷ []
+
+-- the line of rows that were lacked
+abbrev pub rows_line : ℕ → ℕ → List ℕ
+rows_line free need = codes "rows " ++ decimal free ++ 32 ∷ decimal need ++ 10 ∷ []
 
 -- What `make` writes: the last line of the step output of the generated script of so many requests.
 abbrev pub made_line : ℕ → List ℕ
@@ -85,11 +92,28 @@ abbrev pub as_read : Input → Result (List Command) (ℕ × ℕ)
 as_read (inputs.Script commands) = Ok commands
 as_read (inputs.Bad fault) = Err (fault.line, fault.cause)
 
+-- An opening of the script that a form runs lacks rows: of the one that was read, or of the generated one.
+abbrev pub ReadLacks : Result (List Command) (ℕ × ℕ) → ℕ → ℕ → Type 0
+ReadLacks (Ok commands) free need = ScriptLacks commands free need
+ReadLacks (Err fault) free need = ⊥
+
+abbrev pub FormLacks : Form → List ℕ → ℕ → ℕ → Type 0
+FormLacks form.Step input free need = ReadLacks (script_at input) free need
+FormLacks (form.Replay layout) input free need = ReadLacks (script_at input) free need
+FormLacks (form.Make requests) input free need = ScriptLacks (generated requests) free need
+FormLacks form.Help input free need = ⊥
+FormLacks form.Usage input free need = ⊥
+
+abbrev pub RunLacks : Form → Reading → ℕ → ℕ → Type 0
+RunLacks form source free need =
+    (input : List ℕ) × (IsTrue (reads form) → IsRead source.left source.left_after input) × FormLacks form input free need
+
 -- How a run ends while the sink takes what is written: the status, and the whole text. It is what the form and its input decide, unless
--- the source failed or memory was refused.
+-- the source failed, or rows or memory were refused.
 abbrev pub Ends : Form → Reading → Status → List ℕ → Type 0
 Ends form source ReadFault text = IsTrue (reads form) × CountsFault source.faults source.faults_after × (text ≡ codes "read fault\n")
 Ends form source Memory text = IsTrue (takes_memory form) × (text ≡ codes "out of memory\n")
+Ends form source (RowsOut free need) text = RunLacks form source free need × (text ≡ rows_line free need)
 Ends form source WriteFault text = ⊥
 Ends form source status text = (input : List ℕ) × (IsTrue (reads form) → IsRead source.left source.left_after input) × Decides form input status text
 
@@ -98,6 +122,15 @@ abbrev pub EndsBy : Form → Reading → Result Answer Stop → Type 0
 EndsBy form source (Ok answer) = Ends form source answer.status answer.text.items
 EndsBy form source (Err stops.ReadFault) = Ends form source ReadFault (codes "read fault\n")
 EndsBy form source (Err stops.Memory) = Ends form source Memory (codes "out of memory\n")
+
+-- What is answered where the run of a script stopped: which rows it lacked.
+abbrev pub AnswersFault : RunFault → Status → List ℕ → Type 0
+AnswersFault (run_faults.RowsOut free need) status text = (status ≡ RowsOut free need) × (text ≡ rows_line free need)
+AnswersFault run_faults.Memory status text = ⊥
+
+-- The run ended for want of rows, by its cause.
+abbrev pub EndsForRows : Form → Reading → Status → Type 0
+EndsForRows form source status = (free : ℕ) × (need : ℕ) × (status ≡ RowsOut free need) × RunLacks form source free need
 
 -- The whole text of how the run ended was written.
 abbrev pub WritesAll : Form → Reading → Status → Option (List ℕ) → Option (List ℕ) → Type 0

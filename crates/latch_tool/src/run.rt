@@ -1,13 +1,15 @@
 // The top call: words and an input in, a status and what was written out.
-ghost use Rattle.std.specs.Prelude.{◌≡◌, ◌≢◌, ◌≤◌, ◌⊎◌, IsTrue, IfOk, IfErr, IsErrOf, false, map};
+ghost use Rattle.std.specs.Prelude.{◌≡◌, ◌≢◌, ◌≤◌, ◌⊎◌, ◌++◌, ◌∷◌, [], IsTrue, IfOk, IfErr, IsErrOf, decimal, false, map};
 ghost use Rattle.std.specs.String.{string_bytes};
 ghost use Rattle.std.specs.Io.KnownBytes.{Appends};
 ghost use Rattle.port_io.specs.Devices.{AppendsPart, CountsFault};
 ghost use Rattle.script.specs.Generated.{generated};
 ghost use Rattle.script.specs.Reading.{script_at};
+ghost use Rattle.step_run.specs.Faults.{ScriptLacks, StopsBy};
 ghost use Rattle.step_run.specs.Lines.{EndsLine};
 ghost use Rattle.step_run.specs.Steps.{step_output};
-ghost use Rattle.latch_tool.specs.Outcomes.{EndsBy, HasRead, HasScript, Reading, Shows, WritesAll, WritesMade, WritesPart, WritesReplay, WritesSteps};
+ghost use Rattle.latch_tool.specs.Outcomes.{AnswersFault, EndsBy, EndsForRows};
+ghost use Rattle.latch_tool.specs.Outcomes.{HasRead, HasScript, Reading, Shows, WritesAll, WritesMade, WritesPart, WritesReplay, WritesSteps};
 ghost use Rattle.latch_tool.specs.Outcomes.{as_read, fault_line, reading, usage_line};
 ghost use Rattle.latch_tool.specs.Words.{form_of, reads, starts_workers};
 ghost use Rattle.latch_tool.specs.declared.form.Form.{Form};
@@ -79,11 +81,13 @@ pub fn run<R: Threads + Wait + Sync, S: Source, O: Sink>(
     ensures helps { form_of (map string_bytes words.now) ≡ Form.Help → result ≢ Status.WriteFault →
         (result ≡ Status.Done) × Appends (O.written sink.old) (O.written sink.new) usage_line }
 
-    // Words that are a form, and a script where the form reads one: unless a device fails, the run is done or memory was refused.
+    // Words that are a form, and a script where the form reads one: unless a device fails, the run is done, memory was refused, or an
+    // opening of its script needs more rows than were free.
     ensures complete { form_of (map string_bytes words.now) ≢ Form.Usage →
         (IsTrue (reads (form_of (map string_bytes words.now))) → HasScript (reading S.left S.faults source.old source.new)) →
         ¬ CountsFault (S.faults source.old) (S.faults source.new) → ¬ CountsFault (O.faults sink.old) (O.faults sink.new) →
-        (result ≡ Status.Done) ⊎ (result ≡ Status.Memory) }
+        (result ≡ Status.Done) ⊎ ((result ≡ Status.Memory)
+        ⊎ EndsForRows (form_of (map string_bytes words.now)) (reading S.left S.faults source.old source.new) result) }
 {
     match form_of(words) {
         Form::Replay { layout } => replay(rt, alloc, layout, source, sink),
@@ -116,7 +120,8 @@ pub fn run_still<S: Source, O: Sink>(
     ensures complete { form_of (map string_bytes words.now) ≢ Form.Usage →
         (IsTrue (reads (form_of (map string_bytes words.now))) → HasScript (reading S.left S.faults source.old source.new)) →
         ¬ CountsFault (S.faults source.old) (S.faults source.new) → ¬ CountsFault (O.faults sink.old) (O.faults sink.new) →
-        (result ≡ Status.Done) ⊎ (result ≡ Status.Memory) }
+        (result ≡ Status.Done) ⊎ ((result ≡ Status.Memory)
+        ⊎ EndsForRows (form_of (map string_bytes words.now)) (reading S.left S.faults source.old source.new) result) }
 {
     match form_of(words) {
         Form::Step => step(alloc, source, sink),
@@ -136,14 +141,14 @@ enum Input {
 
 /// What an input decides: a status and the text that is written.
 #[derive(Drop)]
-struct Answer {
+pub(crate) struct Answer {
     status: Status,
     text: Vec<u8>,
 }
 
 /// Why an input was not answered.
 #[derive(Clone, Copy, Debug, PartialEq, Eq)]
-enum Stop {
+pub(crate) enum Stop {
     ReadFault,
     Memory,
 }
@@ -153,16 +158,6 @@ impl From<AllocError> for Stop {
 
     fn from(_refused: AllocError) -> Stop {
         Stop::Memory
-    }
-}
-
-impl From<RunFault> for Stop {
-    ghost from_gives = { λ _ stop. stop ≡ memory };
-
-    fn from(fault: RunFault) -> Stop {
-        match fault {
-            RunFault::Memory => Stop::Memory,
-        }
     }
 }
 
@@ -201,7 +196,10 @@ fn step_answer<S: Source>(alloc: Global, source: &mut S) -> Result<Answer, Stop>
     ensures { EndsBy Form.Step (reading S.left S.faults source.old source.new) result }
 {
     match read_input(alloc, source)? {
-        Input::Script(script) => Ok(done(run_step(alloc, &script)?)),
+        Input::Script(script) => match run_step(alloc, &script) {
+            Ok(output) => Ok(done(output)),
+            Err(fault) => stopped(alloc, fault),
+        },
         Input::Bad(fault) => Ok(bad(alloc, fault)?),
     }
 }
@@ -216,7 +214,10 @@ fn replay_answer<R: Threads + Wait + Sync, S: Source>(
     ensures { EndsBy (Form.Replay layout) (reading S.left S.faults source.old source.new) result }
 {
     match read_input(alloc, source)? {
-        Input::Script(script) => Ok(done(shown(rt, alloc, layout, &script)?)),
+        Input::Script(script) => match shown(rt, alloc, layout, &script) {
+            Ok(report) => Ok(done(report)),
+            Err(fault) => stopped(alloc, fault),
+        },
         Input::Bad(fault) => Ok(bad(alloc, fault)?),
     }
 }
@@ -227,9 +228,9 @@ fn shown<R: Threads + Wait + Sync>(
     alloc: Global,
     layout: Layout,
     script: &Script,
-) -> Result<Vec<u8>, Stop>
+) -> Result<Vec<u8>, RunFault>
     ensures shows { IfOk result (λ text. Shows layout script.now text.items) }
-    ensures memory { IfErr result (λ stop. stop ≡ Stop.Memory) }
+    ensures stops { IfErr result (StopsBy (ScriptLacks script.now)) }
 {
     let history = run_sessions(rt, alloc, script, &NoGate)?;
     match layout {
@@ -272,12 +273,11 @@ fn make<O: Sink>(alloc: Global, requests: u32, sink: &mut O) -> Status
     ensures part { (source : Reading) → result ≡ Status.WriteFault → WritesPart (Form.Make requests) source (O.written sink.old) (O.written sink.new) }
     ensures write_fault { result ≡ Status.WriteFault → CountsFault (O.faults sink.old) (O.faults sink.new) }
     ensures makes { result ≡ Status.Done → WritesMade requests (O.written sink.old) (O.written sink.new) }
-    ensures done { result ≢ Status.WriteFault → (result ≡ Status.Done) ⊎ (result ≡ Status.Memory) }
 {
     generated_is_a_script();
     match made_output(alloc, requests) {
         Ok(output) => tell(sink, Status::Done, last_line(output.as_slice())),
-        Err(_) => tell(sink, Status::Memory, NO_MEMORY),
+        Err(fault) => finish(sink, stopped(alloc, fault)),
     }
 }
 
@@ -286,6 +286,7 @@ fn made_output(alloc: Global, requests: u32) -> Result<Vec<u8>, RunFault>
     requires { requests ≤ MAKE_LIMIT }
     ensures output { IfOk result (λ out. out.items ≡ step_output (generated requests)) }
     ensures ends { IfOk result (λ out. EndsLine out.items) }
+    ensures stops { IfErr result (StopsBy (ScriptLacks (generated requests))) }
 {
     let script = make_script(alloc, requests)?;
     run_step(alloc, &script)
@@ -308,23 +309,38 @@ fn bad(alloc: Global, fault: ScriptFault) -> Result<Answer, AllocError>
     let ScriptFault { line, cause } = fault;
     Ok(Answer {
         status: Status::Script { line, cause },
-        text: fault_text(alloc, line, cause)?,
+        text: numbers_line(alloc, b"script ", line, cause)?,
     })
 }
 
-fn fault_text(alloc: Global, line: u32, cause: u32) -> Result<Vec<u8>, AllocError>
-    ensures { IfOk result (λ text. text.items ≡ fault_line line cause) }
+// The answer where the run of a script stopped: the rows that it lacked.
+pub(crate) fn stopped(alloc: Global, fault: RunFault) -> Result<Answer, Stop>
+    ensures rows { IfOk result (λ a. AnswersFault fault a.status a.text.items) }
+    ensures memory { IfErr result (λ stop. stop ≡ Stop.Memory) }
 {
-    let mut text = Vec::from_slice(alloc, b"script ")?;
-    text.extend_from_slice(Buffer::new().format(line).as_bytes())?;
+    match fault {
+        RunFault::RowsOut { free, need } => Ok(Answer {
+            status: Status::RowsOut { free, need },
+            text: numbers_line(alloc, b"rows ", free, need)?,
+        }),
+        RunFault::Memory => Err(Stop::Memory),
+    }
+}
+
+// A word with the space behind it, and two numbers.
+fn numbers_line(alloc: Global, word: &[u8], first: u32, second: u32) -> Result<Vec<u8>, AllocError>
+    ensures { IfOk result (λ text. text.items ≡ word.now ++ decimal first ++ 32 ∷ decimal second ++ 10 ∷ []) }
+{
+    let mut text = Vec::from_slice(alloc, word)?;
+    text.extend_from_slice(Buffer::new().format(first).as_bytes())?;
     text.extend_from_slice(b" ")?;
-    text.extend_from_slice(Buffer::new().format(cause).as_bytes())?;
+    text.extend_from_slice(Buffer::new().format(second).as_bytes())?;
     text.extend_from_slice(b"\n")?;
     Ok(text)
 }
 
 // Writes what was answered, or why nothing was.
-fn finish<O: Sink>(sink: &mut O, answered: Result<Answer, Stop>) -> Status
+pub(crate) fn finish<O: Sink>(sink: &mut O, answered: Result<Answer, Stop>) -> Status
     requires { IfOk answered (λ a. a.status ≢ Status.WriteFault) }
     ensures written { (form : Form) (source : Reading) → EndsBy form source answered → result ≢ Status.WriteFault →
         WritesAll form source result (O.written sink.old) (O.written sink.new) }

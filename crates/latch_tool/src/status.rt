@@ -17,6 +17,8 @@ pub enum Status {
     WriteFault,
     /// Memory was refused.
     Memory,
+    /// An opening of the script needs more rows than were free.
+    RowsOut { free: u32, need: u32 },
 }
 
 impl Status {
@@ -31,6 +33,7 @@ impl Status {
             Status::ReadFault => 4,
             Status::WriteFault => 5,
             Status::Memory => 6,
+            Status::RowsOut { .. } => 7,
         }
     }
 }

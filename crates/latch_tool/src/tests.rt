@@ -1,6 +1,6 @@
 // Worked scripts, whole: what the program is given, what it answers and what it writes. The lines were worked out from the rules, apart
 // from the program.
-use crate::run::run;
+use crate::run::{finish, run, stopped};
 use crate::status::Status;
 use port_io::{MemSink, MemSource};
 use std::alloc::{AllocError, Global};
@@ -8,6 +8,7 @@ use std::process::Abort;
 use std::sync::Wait;
 use std::test::Fail;
 use std::thread::Threads;
+use step_run::RunFault;
 
 /// What the program answered, and what it wrote.
 #[derive(Drop)]
@@ -620,5 +621,30 @@ fn a_replay_has_the_statuses_of_its_devices(rt: HostRuntime) -> Result<(), Fail>
     let unwritten = ran(&rt, alloc, &["replay"], b"latch script 1\nend\n", &[], &[1])?;
     assert!(rt; unwritten.status == Status::WriteFault);
     assert!(rt; unwritten.written.as_slice() == b"latch".as_slice());
+    Ok(())
+}
+
+// Where a run lacked rows the status and the line say how many were free and needed.
+#[test]
+fn lacked_rows_are_named(rt: HostRuntime) -> Result<(), Fail> {
+    let alloc = rt.alloc();
+    let mut sink = MemSink::new(Vec::with_capacity(alloc, 64)?, 5, Vec::new(alloc));
+    let lacked = stopped(
+        alloc,
+        RunFault::RowsOut {
+            free: 12,
+            need: 208,
+        },
+    );
+    let status = finish(&mut sink, lacked);
+    assert!(rt;
+        status
+            == Status::RowsOut {
+                free: 12,
+                need: 208
+            }
+    );
+    assert!(rt; status.code() == 7);
+    assert!(rt; sink.written() == b"rows 12 208\n".as_slice());
     Ok(())
 }

@@ -11,11 +11,8 @@ use Rattle.script.specs.Commands.{opens}
 use Rattle.script.specs.Follows.{Block, Follows}
 use Rattle.script.specs.declared.command.Command.{Command}
 use Rattle.script.specs.declared.command.Command.TheVariants.{Begin, Wait, Check, Poison, Release, Metrics}
-use Rattle.sequence_core.specs.declared.fault.SeqFault.{SeqFault}
-use Rattle.sequence_core.specs.declared.fault.SeqFault.TheVariants as seq_fault
 use Rattle.signal_board.specs.Rule.{open_count, own}
 use Rattle.signal_board.specs.Says.{PassSays}
-use Rattle.signal_board.specs.Views.{PassView}
 use Rattle.replay.specs.Blocks.{GrowsBy, LiveName, blocks_until, new_block}
 use Rattle.replay.specs.Sessions.{Hand, Idle, Standing, TurnsOf}
 
@@ -105,11 +102,6 @@ IsFit (Check name latches) = Unit {0}
 IsFit (Poison name) = Unit {0}
 IsFit (Release name) = Unit {0}
 IsFit Metrics = Unit {0}
-
--- The one refusal of a begin that comes at the program's sizes.
-abbrev pub IsWantOfMemory : SeqFault → Type 0
-IsWantOfMemory (seq_fault.LatchesFull held asked) = ⊥
-IsWantOfMemory seq_fault.Memory = Unit {0}
 
 -- whether a name is the one that a command opened, and whether a command is one of a session by its live name
 abbrev pub opened_by : List ℕ → Option Command → Bool

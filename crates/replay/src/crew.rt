@@ -1,7 +1,8 @@
 // A worker for each session.
-ghost use Rattle.std.specs.Prelude.{◌≡◌, ◌<◌, ◌^◌, All, length, map, IfOk, OnOk};
+ghost use Rattle.std.specs.Prelude.{◌≡◌, ◌<◌, ◌^◌, All, length, map, IfErr, IfOk, MatchResult, OnOk};
 ghost use Rattle.std.specs.Thread.{IsSync};
 ghost use Rattle.script.specs.Scripts.{IsScript};
+ghost use Rattle.step_run.specs.Faults.{ScriptLacks, StopsBy};
 ghost use Rattle.replay.specs.Running.{FollowsIn, Fresh, Rested, program_sizes, whos};
 
 use crate::session::run_session;
@@ -9,10 +10,10 @@ use latch_manager::gate::Gate;
 use latch_manager::manager::{Making, Manager};
 use script::command::Command;
 use signal_board::board::Pass;
-use span_key::Memory;
 use std::alloc::Global;
 use std::sync::Wait;
 use std::thread::{Threads, join_mut};
+use step_run::RunFault;
 
 /// Runs the session of each of these passes in a worker of its own. The first half of them runs beside the second, and so on by halves; where a worker can't
 /// be started, the caller runs its sessions itself.
@@ -23,7 +24,7 @@ pub(crate) fn crew<N: Making + Send + Sync, G: Gate, R: Threads + Wait + Sync>(
     manager: &Manager<N>,
     passes: &mut [Pass],
     gate: &G,
-) -> Result<(), Memory>
+) -> Result<(), RunFault>
     requires script { IsScript commands.now }
     requires few { length commands.now < 2 ^ 31 }
     requires sizes { N.made.sizes ≡ program_sizes }
@@ -31,6 +32,7 @@ pub(crate) fn crew<N: Making + Send + Sync, G: Gate, R: Threads + Wait + Sync>(
     ensures whos { whos passes.new ≡ whos passes.old }
     ensures rested { All (Rested N.made.table) passes.new }
     ensures follows { OnOk result (All (FollowsIn commands.now) passes.new) }
+    ensures stops { IfErr result (StopsBy (ScriptLacks commands.now)) }
 {
     if passes.len() < 2 {
         return alone(rt, alloc, commands, manager, passes, gate);
@@ -44,6 +46,7 @@ pub(crate) fn crew<N: Making + Send + Sync, G: Gate, R: Threads + Wait + Sync>(
             ensures whos { whos front.exit.now ≡ whos front.entry.now }
             ensures rested { All (Rested N.made.table) front.exit.now }
             ensures follows { OnOk result (All (FollowsIn commands.entry.now) front.exit.now) }
+            ensures stops { IfErr result (StopsBy (ScriptLacks commands.entry.now)) }
         { crew(rt, alloc, commands, manager, front, gate) },
         &mut ||
             requires { IsSync R.row × IsSync N.row × IsSync G.row × IsScript commands.now × (length commands.now < 2 ^ 31) × (N.made.sizes ≡ program_sizes)
@@ -51,6 +54,7 @@ pub(crate) fn crew<N: Making + Send + Sync, G: Gate, R: Threads + Wait + Sync>(
             ensures whos { whos back.exit.now ≡ whos back.entry.now }
             ensures rested { All (Rested N.made.table) back.exit.now }
             ensures follows { OnOk result (All (FollowsIn commands.entry.now) back.exit.now) }
+            ensures stops { IfErr result (StopsBy (ScriptLacks commands.entry.now)) }
         { crew(rt, alloc, commands, manager, back, gate) },
     );
     both(first, second)
@@ -64,7 +68,7 @@ fn alone<N: Making, G: Gate, R: Wait>(
     manager: &Manager<N>,
     passes: &mut [Pass],
     gate: &G,
-) -> Result<(), Memory>
+) -> Result<(), RunFault>
     requires script { IsScript commands.now }
     requires few { length commands.now < 2 ^ 31 }
     requires sizes { N.made.sizes ≡ program_sizes }
@@ -73,6 +77,7 @@ fn alone<N: Making, G: Gate, R: Wait>(
     ensures whos { whos passes.new ≡ whos passes.old }
     ensures rested { All (Rested N.made.table) passes.new }
     ensures follows { OnOk result (All (FollowsIn commands.now) passes.new) }
+    ensures stops { IfErr result (StopsBy (ScriptLacks commands.now)) }
 {
     if passes.len() == 0 {
         return Ok(());
@@ -80,10 +85,11 @@ fn alone<N: Making, G: Gate, R: Wait>(
     run_session(rt, alloc, commands, manager, &mut passes[0], gate)
 }
 
-// Both were done, or memory was refused to one of them.
-fn both(first: Result<(), Memory>, second: Result<(), Memory>) -> Result<(), Memory>
+// Both were done, or rows or memory were refused to one of them: to the first, if it was to both.
+fn both(first: Result<(), RunFault>, second: Result<(), RunFault>) -> Result<(), RunFault>
     ensures first { OnOk result (first ≡ Ok tt) }
     ensures second { OnOk result (second ≡ Ok tt) }
+    ensures least { MatchResult first (λ _. result ≡ second) (λ fault. result ≡ Err fault) }
 {
     first?;
     second

@@ -1,5 +1,5 @@
 // What a session has in hand, and what its commands make of it.
-ghost use Rattle.std.specs.Prelude.{◌≡◌, ◌≢◌, ℕ, ◌≤◌, ◌++◌, ◌∷◌, [], true, false, IfOk, OnErr, List, Option, Some, None, length};
+ghost use Rattle.std.specs.Prelude.{◌≡◌, ◌≢◌, ℕ, ◌≤◌, ◌++◌, ◌∷◌, [], true, false, IfErr, IfOk, OnErr, List, Option, Some, None, length};
 ghost use Rattle.latch_model.specs.declared.latch.Mode.TheVariants.{Acquire, Look, Optimistic};
 ghost use Rattle.latch_model.specs.declared.latch.Policy.{Policy as IsPolicy};
 ghost use Rattle.latch_model.specs.declared.latch.Latch.{Latch};
@@ -7,10 +7,12 @@ ghost use Rattle.latch_model.specs.declared.latch.TheConstants.Latches.{LIMIT};
 ghost use Rattle.script.specs.Follows.{Block, declaration_of, is_poison, is_wait};
 ghost use Rattle.script.specs.declared.command.Command.{Command as IsCommand};
 ghost use Rattle.script.specs.declared.command.Command.TheVariants.{Check as is_check_of, Poison as is_poison_of, Release as is_release_of};
+ghost use Rattle.sequence_core.specs.Says.{LacksRows};
+ghost use Rattle.step_run.specs.Faults.{StopsBy};
 ghost use Rattle.signal_board.specs.Rule.{open_count};
 ghost use Rattle.signal_board.specs.Views.{PassView};
 ghost use Rattle.replay.specs.Blocks.{GrowsBy, new_block};
-ghost use Rattle.replay.specs.Running.{IsWantOfMemory, Keeps, SomeTurns, program_sizes};
+ghost use Rattle.replay.specs.Running.{Keeps, SomeTurns, program_sizes};
 ghost use Rattle.replay.specs.Sessions.{HandAt, HandGiven, PatienceOf, Standing, TurnsOf};
 ghost use Rattle.replay.specs.declared.hand.Hand.TheVariants.{Idle, Checking as is_checking, Holding as is_holding, Over as is_over};
 
@@ -18,12 +20,11 @@ use latch_manager::manager::{AcquireFault, Making, Manager};
 use latch_manager::patience::{Endless, Patience, Turns};
 use latch_model::latch::Latches;
 use latch_model::request::Request;
-use sequence_core::desk::SeqRefusal;
-use sequence_core::fault::SeqFault;
 use signal_board::board::Pass;
 use span_key::Memory;
 use std::alloc::Global;
 use std::sync::Wait;
+use step_run::{RunFault, run_fault};
 use waiter::{Granted, Optimist};
 
 /// The request of the live name of a session: there is none; it is optimistic and hasn't waited; it is granted by waiting; or it has ended.
@@ -42,7 +43,7 @@ pub(crate) fn acquire<N: Making, R: Wait>(
     pass: &mut Pass,
     request: Request,
     turns: Option<u32>,
-) -> Result<Hand, Memory>
+) -> Result<Hand, RunFault>
     requires sizes { N.made.sizes ≡ program_sizes }
     requires few { length request.latches ≤ LIMIT }
     requires table { pass.old.table ≡ N.made.table }
@@ -55,6 +56,7 @@ pub(crate) fn acquire<N: Making, R: Wait>(
     ensures given { IfOk result (HandGiven N.made.table pass.new.p) }
     ensures some { IfOk result (λ hand. hand ≢ Idle) }
     ensures ended { OnErr result (open_count pass.new.p.mine ≡ 0) }
+    ensures stops { IfErr result (StopsBy (LacksRows Acquire request.latches)) }
 {
     match turns {
         None => acquire_with(rt, alloc, manager, pass, request, &mut Endless),
@@ -69,7 +71,7 @@ fn acquire_with<N: Making, R: Wait, P: Patience>(
     pass: &mut Pass,
     request: Request,
     patience: &mut P,
-) -> Result<Hand, Memory>
+) -> Result<Hand, RunFault>
     requires sizes { N.made.sizes ≡ program_sizes }
     requires few { length request.latches ≤ LIMIT }
     requires table { pass.old.table ≡ N.made.table }
@@ -82,10 +84,11 @@ fn acquire_with<N: Making, R: Wait, P: Patience>(
     ensures given { IfOk result (HandGiven N.made.table pass.new.p) }
     ensures some { IfOk result (λ hand. hand ≢ Idle) }
     ensures ended { OnErr result (open_count pass.new.p.mine ≡ 0) }
+    ensures stops { IfErr result (StopsBy (LacksRows Acquire request.latches)) }
 {
     match manager.acquire(rt, alloc, pass, request, patience) {
         Ok(granted) => Ok(Hand::Holding(granted)),
-        Err(AcquireFault::Seq(refusal)) => refused(refusal),
+        Err(AcquireFault::Seq(refusal)) => Err(run_fault(refusal)),
         Err(AcquireFault::Poisoned(_)) => Ok(Hand::Over),
         Err(AcquireFault::Cancelled { turns: _ }) => Ok(Hand::Over),
     }
@@ -99,7 +102,7 @@ pub(crate) fn look<N: Making, R: Wait>(
     pass: &mut Pass,
     request: Request,
     turns: Option<u32>,
-) -> Result<Hand, Memory>
+) -> Result<Hand, RunFault>
     requires sizes { N.made.sizes ≡ program_sizes }
     requires few { length request.latches ≤ LIMIT }
     requires table { pass.old.table ≡ N.made.table }
@@ -112,6 +115,7 @@ pub(crate) fn look<N: Making, R: Wait>(
     ensures given { IfOk result (HandGiven N.made.table pass.new.p) }
     ensures some { IfOk result (λ hand. hand ≢ Idle) }
     ensures ended { OnErr result (open_count pass.new.p.mine ≡ 0) }
+    ensures stops { IfErr result (StopsBy (LacksRows Look request.latches)) }
 {
     match turns {
         None => look_with(rt, alloc, manager, pass, request, &mut Endless),
@@ -126,7 +130,7 @@ fn look_with<N: Making, R: Wait, P: Patience>(
     pass: &mut Pass,
     request: Request,
     patience: &mut P,
-) -> Result<Hand, Memory>
+) -> Result<Hand, RunFault>
     requires sizes { N.made.sizes ≡ program_sizes }
     requires few { length request.latches ≤ LIMIT }
     requires table { pass.old.table ≡ N.made.table }
@@ -139,10 +143,11 @@ fn look_with<N: Making, R: Wait, P: Patience>(
     ensures given { IfOk result (HandGiven N.made.table pass.new.p) }
     ensures some { IfOk result (λ hand. hand ≢ Idle) }
     ensures ended { OnErr result (open_count pass.new.p.mine ≡ 0) }
+    ensures stops { IfErr result (StopsBy (LacksRows Look request.latches)) }
 {
     match manager.wait_for(rt, alloc, pass, request, patience) {
         Ok(_id) => Ok(Hand::Over),
-        Err(AcquireFault::Seq(refusal)) => refused(refusal),
+        Err(AcquireFault::Seq(refusal)) => Err(run_fault(refusal)),
         Err(AcquireFault::Poisoned(_)) => Ok(Hand::Over),
         Err(AcquireFault::Cancelled { turns: _ }) => Ok(Hand::Over),
     }
@@ -155,7 +160,7 @@ pub(crate) fn optimistic<N: Making, R: Wait>(
     manager: &Manager<N>,
     pass: &mut Pass,
     request: Request,
-) -> Result<Hand, Memory>
+) -> Result<Hand, RunFault>
     requires sizes { N.made.sizes ≡ program_sizes }
     requires few { length request.latches ≤ LIMIT }
     requires table { pass.old.table ≡ N.made.table }
@@ -167,10 +172,11 @@ pub(crate) fn optimistic<N: Making, R: Wait>(
     ensures given { IfOk result (HandGiven N.made.table pass.new.p) }
     ensures some { IfOk result (λ hand. hand ≢ Idle) }
     ensures ended { OnErr result (open_count pass.new.p.mine ≡ 0) }
+    ensures stops { IfErr result (StopsBy (LacksRows Optimistic request.latches)) }
 {
     match manager.optimistic(rt, alloc, pass, request) {
         Ok(optimist) => Ok(Hand::Checking(optimist)),
-        Err(refusal) => refused(refusal),
+        Err(refusal) => Err(run_fault(refusal)),
     }
 }
 
@@ -194,17 +200,6 @@ fn wait_with<N: Making, R: Wait, P: Patience>(
     match manager.wait(rt, pass, optimist.into_waiting(), patience) {
         Ok(granted) => Hand::Holding(granted),
         Err(_fault) => Hand::Over,
-    }
-}
-
-// A request that didn't begin: only memory can be refused, since the latches of all sessions together find place.
-fn refused(refusal: SeqRefusal) -> Result<Hand, Memory>
-    requires { IsWantOfMemory refusal.fault }
-    ensures { OnErr result (Unit {0}) × IfOk result (λ _. ⊥) }
-{
-    match refusal.fault {
-        SeqFault::LatchesFull { held: _, asked: _ } => unreachable!(),
-        SeqFault::Memory => Err(Memory),
     }
 }
 

@@ -1,11 +1,12 @@
 // A script run by sessions on threads of their own, on one desk.
-ghost use Rattle.std.specs.Prelude.{◌≡◌, ℕ, false, All, List, length, IfOk, OnOk};
+ghost use Rattle.std.specs.Prelude.{◌≡◌, ℕ, false, All, List, length, IfErr, IfOk, OnOk};
 ghost use Rattle.latch_model.specs.Histories.{is_open};
 ghost use Rattle.latch_model.specs.Legal.{IsLegal};
 ghost use Rattle.script.specs.Follows.{FollowsScript};
 ghost use Rattle.script.specs.Scripts.{IsScript};
 ghost use Rattle.script.specs.declared.command.Command.{Command};
 ghost use Rattle.sequence_core.specs.Says.{AreFresh, RefusesNew};
+ghost use Rattle.step_run.specs.Faults.{ScriptLacks, StopsBy};
 ghost use Rattle.replay.specs.Running.{FollowsIn, Fresh, Rested, lane_numbers, program_sizes, whos};
 
 use crate::crew::crew;
@@ -16,7 +17,6 @@ use script::command::Script;
 use sequence_core::desk::Desk;
 use sequence_core::fault::NewFault;
 use signal_board::board::Pass;
-use span_key::Memory;
 use std::alloc::Global;
 use std::marker::Brand;
 use std::sync::Wait;
@@ -32,8 +32,9 @@ pub const PROGRAM_SIZES: Sizes = Sizes {
 };
 
 /// Runs each session's commands in their order, in a worker of its own, and waits for all of them; where a worker can't be started, the caller runs that
-/// session itself. Session w uses the pass with number w, and a request's tag is the number of the line that opened it. A session to which memory is refused
-/// ends what it has open and stops, while the others go on. In the end no pass has an open request.
+/// session itself. Session w uses the pass with number w, and a request's tag is the number of the line that opened it. A session to which rows or memory are
+/// refused ends what it has open and stops, while the others go on; the fault of the least such session is answered. Too few rows are answered only where an
+/// opening of the script needs more than were free. In the end no pass has an open request.
 pub fn sessions<N: Making + Send + Sync, G: Gate, R: Threads + Wait + Sync>(
     rt: &R,
     alloc: Global,
@@ -47,8 +48,9 @@ pub fn sessions<N: Making + Send + Sync, G: Gate, R: Threads + Wait + Sync>(
     ensures whos { whos passes.new ≡ whos passes.old }
     ensures rested { All (Rested N.made.table) passes.new }
     ensures follows { OnOk result (All (FollowsIn script.now) passes.new) }
+    ensures stops { IfErr result (StopsBy (ScriptLacks script.now)) }
 {
-    Ok(crew(rt, alloc, script.commands(), manager, passes, gate)?)
+    crew(rt, alloc, script.commands(), manager, passes, gate)
 }
 
 // The manager of a making, and what becomes of its passes.
@@ -70,6 +72,7 @@ fn within<N: Making + Send + Sync, G: Gate, R: Threads + Wait + Sync>(
     ensures whos { whos passes.new.items ≡ whos passes.old.items }
     ensures rested { All (Rested N.made.table) passes.new.items }
     ensures follows { OnOk result.2 (All (FollowsIn script.now) passes.new.items) }
+    ensures stops { IfErr result.2 (StopsBy (ScriptLacks script.now)) }
 {
     let manager = Manager::<N>::new(core, desk);
     let ran = sessions(rt, alloc, script, &manager, passes.as_mut_slice(), gate);
@@ -78,7 +81,8 @@ fn within<N: Making + Send + Sync, G: Gate, R: Threads + Wait + Sync>(
 }
 
 /// Runs a script with a worker for each session. The history that comes out is legal, no request of it is open, and it follows the script: each session's
-/// entries are those of its commands, in their order, and no entry is of another.
+/// entries are those of its commands, in their order, and no entry is of another. Too few rows are answered only where an opening of the script needs more
+/// than were free.
 pub fn replay<G: Gate, R: Threads + Wait + Sync>(
     rt: &R,
     alloc: Global,
@@ -89,6 +93,7 @@ pub fn replay<G: Gate, R: Threads + Wait + Sync>(
     ensures legal { IfOk result (λ h. IsLegal h.entries h.sizes) }
     ensures closed { IfOk result (λ h. (id : ℕ) → is_open h.entries id ≡ false) }
     ensures follows { IfOk result (λ h. FollowsScript h.entries script.now) }
+    ensures stops { IfErr result (StopsBy (ScriptLacks script.now)) }
 {
     match Desk::new(alloc, PROGRAM_SIZES) {
         Err(fault) => refused(fault),
@@ -115,7 +120,8 @@ pub fn replay<G: Gate, R: Threads + Wait + Sync>(
 // A desk of the program's sizes isn't made for want of memory alone.
 fn refused(fault: NewFault) -> Result<History, RunFault>
     requires { RefusesNew program_sizes fault }
-    ensures { IfOk result (λ _. ⊥) }
+    ensures no_history { IfOk result (λ _. ⊥) }
+    ensures memory { IfErr result (λ fault. fault ≡ RunFault.Memory) }
 {
     match fault {
         NewFault::BadSizes { which: _ } => unreachable!(),

@@ -1,14 +1,16 @@
 // The commands of a session, one after another.
-ghost use Rattle.std.specs.Prelude.{◌≡◌, ◌≢◌, ℕ, ◌+◌, ◌<◌, ◌≤◌, ◌^◌, [], ◌∷◌, ◌++◌, List, Option, Some, length, slice_get, IfOk, OnOk, OnErr};
+ghost use Rattle.std.specs.Prelude.{◌≡◌, ◌≢◌, ℕ, ◌+◌, ◌<◌, ◌≤◌, ◌^◌, [], ◌∷◌, ◌++◌, List, Option, Some, length, slice_get, IfErr, IfOk, OnOk, OnErr};
 ghost use Rattle.atomic_table.specs.Seated.{TableId};
 ghost use Rattle.latch_model.specs.declared.latch.TheConstants.Latches.{LIMIT};
 ghost use Rattle.script.specs.Follows.{Block, Follows, blocks_of, is_of};
 ghost use Rattle.replay.specs.Blocks.{new_block};
 ghost use Rattle.script.specs.Scripts.{IsScript};
+ghost use Rattle.sequence_core.specs.Says.{LacksRows};
 ghost use Rattle.signal_board.specs.Rule.{open_count, own};
 ghost use Rattle.signal_board.specs.Says.{PassSays};
 ghost use Rattle.replay.specs.Running.{Fresh, IsAt, IsFit, Keeps, NextHand, Ran, SomeTurns, is_live_name, is_own, live_behind, program_sizes};
 ghost use Rattle.replay.specs.Running.{turns_at, turns_of};
+ghost use Rattle.step_run.specs.Faults.{OpeningLacks, ScriptLacks, StopsBy};
 ghost use Rattle.script.specs.Commands.{opens};
 ghost use Rattle.replay.specs.Sessions.{HandGiven, Standing};
 ghost use Rattle.replay.specs.declared.hand.Hand.{Hand as IsHand};
@@ -24,8 +26,9 @@ use signal_board::board::Pass;
 use span_key::Memory;
 use std::alloc::Global;
 use std::sync::Wait;
+use step_run::RunFault;
 
-// One command of the session. Where memory is refused, what was open has been ended.
+// One command of the session. Where rows or memory are refused, what was open has been ended.
 pub(crate) fn run_command<N: Making, R: Wait>(
     rt: &R,
     alloc: Global,
@@ -35,7 +38,7 @@ pub(crate) fn run_command<N: Making, R: Wait>(
     turns: Option<u32>,
     command: &Command,
     line: u32,
-) -> Result<Hand, Memory>
+) -> Result<Hand, RunFault>
     requires sizes { N.made.sizes ≡ program_sizes }
     requires table { pass.old.table ≡ N.made.table }
     requires given { HandGiven N.made.table pass.old.p hand }
@@ -46,6 +49,7 @@ pub(crate) fn run_command<N: Making, R: Wait>(
     ensures ran { IfOk result (λ next. Ran N.made.table line turns command.now pass.old hand pass.new next) }
     ensures tied { IfOk result (NextHand command.now hand) }
     ensures ended { OnErr result (open_count pass.new.p.mine ≡ 0) }
+    ensures stops { IfErr result (StopsBy (OpeningLacks command.now)) }
 {
     match command {
         Command::Begin {
@@ -59,7 +63,9 @@ pub(crate) fn run_command<N: Making, R: Wait>(
             rt, alloc, manager, pass, hand, *mode, *policy, *own, latches, line,
         ),
         Command::Wait { name: _ } => Ok(wait(rt, manager, pass, hand, turns)),
-        Command::Check { name: _, latches } => check(rt, alloc, manager, pass, hand, latches),
+        Command::Check { name: _, latches } => {
+            Ok(check(rt, alloc, manager, pass, hand, latches)?)
+        }
         Command::Poison { name: _ } => Ok(poison(rt, manager, hand)),
         Command::Release { name: _ } => {
             release(rt, manager, pass, hand);
@@ -81,7 +87,7 @@ fn open<N: Making, R: Wait>(
     turns: Option<u32>,
     latches: &Latches,
     line: u32,
-) -> Result<Hand, Memory>
+) -> Result<Hand, RunFault>
     requires sizes { N.made.sizes ≡ program_sizes }
     requires table { pass.old.table ≡ N.made.table }
     requires given { HandGiven N.made.table pass.old.p hand }
@@ -93,6 +99,7 @@ fn open<N: Making, R: Wait>(
         Standing N.made.table pass.new.p (bs ++ new_block line mode policy turns latches.now ∷ []) next) }
     ensures some { IfOk result (λ next. next ≢ Idle) }
     ensures ended { OnErr result (open_count pass.new.p.mine ≡ 0) }
+    ensures stops { IfErr result (StopsBy (LacksRows mode latches.now)) }
 {
     match hand {
         Hand::Idle => begin(rt, alloc, manager, pass, mode, policy, turns, latches, line),
@@ -113,7 +120,7 @@ fn begin<N: Making, R: Wait>(
     turns: Option<u32>,
     latches: &Latches,
     line: u32,
-) -> Result<Hand, Memory>
+) -> Result<Hand, RunFault>
     requires sizes { N.made.sizes ≡ program_sizes }
     requires table { pass.old.table ≡ N.made.table }
     requires idle { open_count pass.old.p.mine ≡ 0 }
@@ -125,6 +132,7 @@ fn begin<N: Making, R: Wait>(
         Standing N.made.table pass.new.p (bs ++ new_block line mode policy turns latches.now ∷ []) next) }
     ensures some { IfOk result (λ next. next ≢ Idle) }
     ensures ended { OnErr result (open_count pass.new.p.mine ≡ 0) }
+    ensures stops { IfErr result (StopsBy (LacksRows mode latches.now)) }
 {
     let request = declared(alloc, line, policy, latches)?;
     match mode {
@@ -145,8 +153,8 @@ fn declared(alloc: Global, line: u32, policy: Policy, latches: &Latches) -> Resu
     }
 }
 
-/// Runs the commands of the session of this pass. Where memory is refused the session ends what it has open and stops. Its entries are then its own in what
-/// its pass has been shown.
+/// Runs the commands of the session of this pass. Where rows or memory are refused the session ends what it has open and stops. Its entries are then its own
+/// in what its pass has been shown.
 pub(crate) fn run_session<N: Making, G: Gate, R: Wait>(
     rt: &R,
     alloc: Global,
@@ -154,7 +162,7 @@ pub(crate) fn run_session<N: Making, G: Gate, R: Wait>(
     manager: &Manager<N>,
     pass: &mut Pass,
     gate: &G,
-) -> Result<(), Memory>
+) -> Result<(), RunFault>
     requires script { IsScript commands.now }
     requires few { length commands.now < 2 ^ 31 }
     requires sizes { N.made.sizes ≡ program_sizes }
@@ -163,6 +171,7 @@ pub(crate) fn run_session<N: Making, G: Gate, R: Wait>(
     ensures idle { open_count pass.new.p.mine ≡ 0 }
     ensures own { pass.new.p.mine ≡ own pass.new.p.who pass.new.p.shown }
     ensures follows { OnOk result (Follows pass.new.p.shown pass.new.p.who commands.now) }
+    ensures stops { IfErr result (StopsBy (ScriptLacks commands.now)) }
 {
     let ran = run_commands(rt, alloc, commands, manager, pass, gate);
     look_back(manager, pass);
@@ -186,7 +195,7 @@ fn run_commands<N: Making, G: Gate, R: Wait>(
     manager: &Manager<N>,
     pass: &mut Pass,
     gate: &G,
-) -> Result<(), Memory>
+) -> Result<(), RunFault>
     requires script { IsScript commands.now }
     requires few { length commands.now < 2 ^ 31 }
     requires sizes { N.made.sizes ≡ program_sizes }
@@ -194,6 +203,7 @@ fn run_commands<N: Making, G: Gate, R: Wait>(
     ensures keeps { Keeps pass.old pass.new }
     ensures idle { open_count pass.new.p.mine ≡ 0 }
     ensures stands { OnOk result (Standing N.made.table pass.new.p (blocks_of commands.now pass.old.p.who) Idle) }
+    ensures stops { IfErr result (StopsBy (ScriptLacks commands.now)) }
 {
     let who = pass.who();
     let mut hand = Hand::Idle;
@@ -204,7 +214,7 @@ fn run_commands<N: Making, G: Gate, R: Wait>(
                 hand = next;
                 live = now;
             }
-            Err(refused) => return Err(refused),
+            Err(fault) => return Err(fault),
         }
     }
     release(rt, manager, pass, hand);
@@ -223,7 +233,7 @@ fn pass_or_run<N: Making, G: Gate, R: Wait>(
     hand: Hand,
     live: Option<usize>,
     i: usize,
-) -> Result<(Hand, Option<usize>), Memory>
+) -> Result<(Hand, Option<usize>), RunFault>
     requires script { IsScript commands.now }
     requires few { length commands.now < 2 ^ 31 }
     requires inside { i < length commands.now }
@@ -232,6 +242,7 @@ fn pass_or_run<N: Making, G: Gate, R: Wait>(
     ensures keeps { Keeps pass.old pass.new }
     ensures at { IfOk result (λ next. IsAt commands.now N.made.table who (i + 1) pass.new next.1 next.0) }
     ensures ended { OnErr result (open_count pass.new.p.mine ≡ 0) }
+    ensures stops { IfErr result (StopsBy (ScriptLacks commands.now)) }
 {
     let command = &commands[i];
     if !is_own(commands, live, who, command) {
@@ -244,7 +255,7 @@ fn pass_or_run<N: Making, G: Gate, R: Wait>(
     gate.after(rt, line);
     match ran {
         Ok(next) => Ok((next, live_behind(live, i, command))),
-        Err(refused) => Err(refused),
+        Err(fault) => Err(fault),
     }
 }
 

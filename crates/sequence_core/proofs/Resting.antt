@@ -21,7 +21,7 @@ use Rattle.sequence_core.specs.Lists.{total}
 use Rattle.sequence_core.specs.Preparing.{AddsEnd, FitsIn, Lacks, SameBut, kept_new}
 use Rattle.sequence_core.specs.Says.{AreFresh, DeskState, HasPlace, Refuses, fresh_pass}
 use Rattle.sequence_core.specs.declared.fault.SeqFault.{SeqFault}
-use Rattle.sequence_core.specs.declared.fault.SeqFault.TheVariants.{LatchesFull, Memory}
+use Rattle.sequence_core.specs.declared.fault.SeqFault.TheVariants.{LatchesFull, RowsOut, Memory}
 use Rattle.sequence_core.specs.declared.fault.Which.TheVariants.{Latches, Lanes, Rows}
 use Rattle.sequence_core.specs.declared.kept.Kept.{Kept}
 use Rattle.sequence_core.specs.declared.limits.TheConstants.{MOST_LATCHES, MOST_LANES, FEWEST_ROWS, MOST_ROWS}
@@ -79,6 +79,7 @@ module _ (seat : DeskSays) (sizes : Sizes) (k : Kept) (rests : Rests seat sizes 
           let is = total_held in
           let h = l.1 in
           (l.0, h ∙ is, l.2, let a = l.2 in let over = l.3 in omega arith, omega arith)
+      by (RowsOut free need) l = absurd l
       by Memory l = λ holds. let fits = l holds in let is = total_held in omega arith
 
   pub has_place : (mode : Mode) (ls : List Latch) (state : DeskState) → state.log ≡ seat.log → state.sizes ≡ sizes →

@@ -57,9 +57,10 @@ kept_new lanes = record {
 abbrev pub FitsIn : ℕ → Mode → ℕ → ℕ → Type 0
 FitsIn limit mode held asked = IsTrue (holds_latches mode) → held + asked ≤ limit
 
--- Why a request can't begin, where so many latches are held and asked for.
+-- Why a request can't begin, where so many latches are held and asked for. Lists need no rows.
 abbrev pub Lacks : ℕ → Mode → ℕ → ℕ → SeqFault → Type 0
 Lacks limit mode held asked (seq_fault.LatchesFull h a) = IsTrue (holds_latches mode) × (h ≡ held) × (a ≡ asked) × (limit < held + asked)
+Lacks limit mode held asked (seq_fault.RowsOut free need) = ⊥
 Lacks limit mode held asked seq_fault.Memory = FitsIn limit mode held asked
 
 -- What is prepared for that begin.

@@ -17,6 +17,7 @@ use Rattle.sequence_core.specs.declared.fault.NewFault.{NewFault}
 use Rattle.sequence_core.specs.declared.fault.NewFault.TheVariants as new_fault
 use Rattle.sequence_core.specs.declared.fault.SeqFault.{SeqFault}
 use Rattle.sequence_core.specs.declared.fault.SeqFault.TheVariants as seq_fault
+use Rattle.sequence_core.specs.declared.limits.TheConstants.{LATCH_ROWS}
 
 -- A desk: its board, the sizes of its history, the history, and how many passes it gave.
 pub record DeskState : Type 0 where
@@ -44,8 +45,16 @@ end_entry e = Ended e.r.id e.r.who e.grant e.r.cause e.fault
 abbrev pub HasPlace : DeskState → Mode → List Latch → Type 0
 HasPlace d mode ls = IsTrue (holds_latches mode) → length (latches_held d.log) + length ls ≤ d.sizes.latches
 
+-- The rows that are set aside for latches.
+abbrev pub rows_for : List Latch → ℕ
+rows_for ls = LATCH_ROWS * length ls
+
+-- The rows for the latches of a request are more than are free. A look needs none.
+abbrev pub LacksRows : Mode → List Latch → ℕ → ℕ → Type 0
+LacksRows mode ls free need = IsTrue (holds_latches mode) × (need ≡ rows_for ls) × (free < need)
+
 -- Why a request doesn't begin: as many latches are held, as many are asked for, and together they are too many, while the other lanes
--- could hold as many; or memory, where there is place.
+-- could hold as many; or rows, where there is place; or memory, where there is place.
 abbrev pub Refuses : DeskState → Mode → List Latch → SeqFault → Type 0
 Refuses d mode ls (seq_fault.LatchesFull held asked) =
     IsTrue (holds_latches mode)
@@ -53,6 +62,7 @@ Refuses d mode ls (seq_fault.LatchesFull held asked) =
     × (asked ≡ length ls)
     × (d.sizes.latches < held + asked)
     × (held ≤ 16 * (d.sizes.lanes - 1))
+Refuses d mode ls (seq_fault.RowsOut free need) = HasPlace d mode ls × LacksRows mode ls free need
 Refuses d mode ls seq_fault.Memory = HasPlace d mode ls
 
 -- Why a desk isn't made: the first of the sizes that is out of its bounds; or memory, where none is.

@@ -74,8 +74,8 @@ impl Desk {
         }
     }
 
-    /// The history grows by the begin of a request of this pass, which is shown the whole history first. Where there is no place or no
-    /// memory the request is handed back, and nothing has changed but what the pass has been shown.
+    /// The history grows by the begin of a request of this pass, which is shown the whole history first. Where there is no place, are too few
+    /// rows or no memory the request is handed back, and nothing has changed but what the pass has been shown.
     pub fn begin(
         &mut self,
         alloc: Global,

@@ -28,10 +28,11 @@ impl From<Memory> for NewFault {
     }
 }
 
-/// Why a request can't begin: beside `held` latches there is no place for the `asked` ones, or memory.
+/// Why a request can't begin: beside `held` latches there is no place for the `asked` ones; they need more rows than are `free`; or memory.
 #[derive(Clone, Copy, Debug, PartialEq, Eq)]
 pub enum SeqFault {
     LatchesFull { held: u32, asked: u32 },
+    RowsOut { free: u32, need: u32 },
     Memory,
 }
 

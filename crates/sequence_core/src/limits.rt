@@ -17,6 +17,9 @@ pub const FEWEST_ROWS: u32 = 208;
 /// The most rows.
 pub const MOST_ROWS: u32 = 4_194_304;
 
+/// The rows that are set aside for a latch: one for itself, seven for its insertion into a tree and five for its removal.
+pub const LATCH_ROWS: u32 = 13;
+
 /// The first of the sizes that is out of its bounds.
 pub fn bad_size(sizes: &Sizes) -> Option<Which>
     ensures { result ≡ bad_size sizes.now }

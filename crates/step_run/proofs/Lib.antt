@@ -18,3 +18,4 @@ pub mod Runs
 pub mod Counting
 pub mod Tracking
 pub mod LastLine
+pub mod Stopping

@@ -1,3 +1,4 @@
+pub mod Faults
 pub mod State
 pub mod Steps
 pub mod Valid

@@ -1,7 +1,8 @@
 // The commands of a step run.
-ghost use Rattle.std.specs.Prelude.{◌≡◌, ℕ, ◌<◌, length, Some, OnOk, IfOk, slice_get};
+ghost use Rattle.std.specs.Prelude.{◌≡◌, ℕ, ◌<◌, length, Some, OnOk, IfErr, IfOk, slice_get};
 ghost use Rattle.step_run.specs.Allowing.{Allowed, AllowedCheck};
 ghost use Rattle.step_run.specs.Checking.{ChecksAs};
+ghost use Rattle.step_run.specs.Faults.{OpeningLacks, StopsBy};
 ghost use Rattle.step_run.specs.Lives.{IsOf, LiveSays};
 ghost use Rattle.step_run.specs.Runs.{Makes, Sound, Stands};
 ghost use Rattle.step_run.specs.Seen.{seen_run};
@@ -9,6 +10,7 @@ ghost use Rattle.step_run.specs.State.{Named, State};
 ghost use Rattle.step_run.specs.Steps.{checked, on_name, one, poisoned, released, waited};
 ghost use Rattle.waiter.specs.Says.{OptimistSays};
 
+use crate::fault::RunFault;
 use crate::lines::{checked_line, metrics_line, number_line, words_line};
 use crate::live::{Live, Value, live_place, poison, put, take};
 use crate::open::{Opening, open};
@@ -28,12 +30,13 @@ pub(crate) fn step<'s>(
     line: u32,
     command: &'s Command,
     out: &mut Vec<u8>,
-) -> Result<(), Memory>
+) -> Result<(), RunFault>
     requires sound { Sound 0 (seen_run run.old) }
     requires allowed { Allowed command.now (seen_run run.old).lives }
     ensures sound { Sound 0 (seen_run run.new) }
     ensures step { (s : State) → Stands s (seen_run run.old) → s.line ≡ line →
         OnOk result (Makes (one s command.now) (seen_run run.new) out.old.items out.new.items) }
+    ensures stops { IfErr result (StopsBy (OpeningLacks command.now)) }
 {
     match command {
         Command::Begin {
@@ -53,11 +56,11 @@ pub(crate) fn step<'s>(
             };
             open(alloc, run, opening, request, out)
         }
-        Command::Wait { name } => wait(run, name, out),
-        Command::Check { name, latches } => check(alloc, run, name, latches, out),
-        Command::Poison { name } => poison_name(run, name, out),
-        Command::Release { name } => release(run, name, out),
-        Command::Metrics => metrics_line(&run.desk.metrics(), out),
+        Command::Wait { name } => Ok(wait(run, name, out)?),
+        Command::Check { name, latches } => Ok(check(alloc, run, name, latches, out)?),
+        Command::Poison { name } => Ok(poison_name(run, name, out)?),
+        Command::Release { name } => Ok(release(run, name, out)?),
+        Command::Metrics => Ok(metrics_line(&run.desk.metrics(), out)?),
     }
 }
 

@@ -4,6 +4,7 @@
 
 mod command;
 mod count;
+mod fault;
 mod hear;
 mod last;
 mod lines;
@@ -12,7 +13,8 @@ mod open;
 mod run;
 mod turn;
 
-ghost use Rattle.std.specs.Prelude.{◌≡◌, [], IfOk, OnOk};
+ghost use Rattle.std.specs.Prelude.{◌≡◌, [], IfErr, IfOk, OnOk};
+ghost use Rattle.step_run.specs.Faults.{ScriptLacks, StopsBy};
 ghost use Rattle.step_run.specs.Lines.{EndsLine};
 ghost use Rattle.step_run.specs.Runs.{Sound, Stands};
 ghost use Rattle.step_run.specs.Seen.{seen_run};
@@ -21,37 +23,27 @@ ghost use Rattle.step_run.specs.Steps.{run as run_of, step_output};
 
 use crate::command::step;
 use crate::count::summary;
+pub use crate::fault::{RunFault, run_fault};
 pub use crate::last::last_line;
 use crate::run::{StepRun, close, start};
 use script::command::Script;
-use span_key::Memory;
 use std::alloc::Global;
 
-/// Why a run gave no output.
-#[derive(Clone, Copy, Debug, PartialEq, Eq)]
-pub enum RunFault {
-    /// Memory was refused.
-    Memory,
-}
-
-impl From<Memory> for RunFault {
-    fn from(_refused: Memory) -> RunFault {
-        RunFault::Memory
-    }
-}
-
 /// Runs a script step by step: each command is run to its end before the next, and a wait is one turn. The bytes are the step output,
-/// whose last line counts how many requests began and how many ended in each way.
+/// whose last line counts how many requests began and how many ended in each way. Too few rows are answered only where an opening of the
+/// script needs more than were free.
 pub fn run_step(alloc: Global, script: &Script) -> Result<Vec<u8>, RunFault>
     ensures output { IfOk result (λ out. out.items ≡ step_output script.now) }
     ensures ends { IfOk result (λ out. EndsLine out.items) }
+    ensures stops { IfErr result (StopsBy (ScriptLacks script.now)) }
 {
     Ok(output_of(alloc, script)?)
 }
 
-// The same, with want of memory as it comes.
-fn output_of(alloc: Global, script: &Script) -> Result<Vec<u8>, Memory>
-    ensures { IfOk result (λ out. out.items ≡ step_output script.now) }
+// What a script writes; its last line isn't looked at.
+fn output_of(alloc: Global, script: &Script) -> Result<Vec<u8>, RunFault>
+    ensures output { IfOk result (λ out. out.items ≡ step_output script.now) }
+    ensures stops { IfErr result (StopsBy (ScriptLacks script.now)) }
 {
     let mut run = start(alloc)?;
     let mut out = Vec::new(alloc);
@@ -68,7 +60,7 @@ fn run_all<'s>(
     run: &mut StepRun<'s>,
     script: &'s Script,
     out: &mut Vec<u8>,
-) -> Result<(), Memory>
+) -> Result<(), RunFault>
     requires sound { Sound 0 (seen_run run.old) }
     requires start { Stands start (seen_run run.old) }
     requires empty { out.old.items ≡ [] }
@@ -76,6 +68,7 @@ fn run_all<'s>(
     ensures written { OnOk result (out.new.items ≡ (run_of start script.now).written) }
     ensures history { OnOk result (run.new.desk.log ≡ (run_of start script.now).state.history) }
     ensures lives { OnOk result (run.new.lives.items ≡ []) }
+    ensures stops { IfErr result (StopsBy (ScriptLacks script.now)) }
 {
     for (i, command) in script.commands().iter().enumerate() {
         step(alloc, run, i as u32 + 2, command, out)?;

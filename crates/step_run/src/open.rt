@@ -1,10 +1,11 @@
 // The opening of a request.
 ghost use Rattle.std.specs.Prelude.{◌≡◌, ℕ, ◌≤◌, ◌+◌, ◌<◌, ◌++◌, [], ◌∷◌, codes, decimal, false, map, length, vec_capacity, vec_len, Some, IfOk, OnOk};
-ghost use Rattle.std.specs.Prelude.{OnErr, slice_get};
+ghost use Rattle.std.specs.Prelude.{IfErr, OnErr, slice_get};
 ghost use Rattle.latch_model.specs.Declaration.{Declaration};
 ghost use Rattle.report.specs.Words.{numbers_text};
 ghost use Rattle.script.specs.declared.limits.TheConstants.{SESSION_LIMIT};
-ghost use Rattle.sequence_core.specs.Says.{next_entry};
+ghost use Rattle.sequence_core.specs.Says.{LacksRows, next_entry};
+ghost use Rattle.step_run.specs.Faults.{StopsBy};
 ghost use Rattle.step_run.specs.Lives.{IsOf, LiveSays, has_name, has_open, seen_live};
 ghost use Rattle.step_run.specs.Openings.{IsBegun, TurnsRange, begun_request, begun_value, opening_of, opening_text};
 ghost use Rattle.step_run.specs.Runs.{Makes, Sound, Stands};
@@ -14,14 +15,13 @@ ghost use Rattle.step_run.specs.Steps.{first_phase, first_turn as first_step, op
 ghost use Rattle.step_run.specs.Texts.{named_line};
 
 use crate::command::wait_at;
+use crate::fault::{RunFault, run_fault};
 use crate::lines::opening_line;
 use crate::live::{Live, Value};
 use crate::run::StepRun;
 use latch_model::latch::Mode;
 use latch_model::request::Request;
 use script::command::Name;
-use sequence_core::desk::SeqRefusal;
-use sequence_core::fault::SeqFault;
 use span_key::Memory;
 use std::alloc::Global;
 use waiter::Core;
@@ -42,12 +42,13 @@ pub(crate) fn open<'s>(
     opening: Opening<'s>,
     request: Request,
     out: &mut Vec<u8>,
-) -> Result<(), Memory>
+) -> Result<(), RunFault>
     requires sound { Sound 0 (seen_run run.old) }
     requires idle { has_name opening.session (seen_run run.old).lives ≡ false }
     requires session { (1 ≤ opening.session) × (opening.session ≤ SESSION_LIMIT) }
     requires few { length request.latches ≤ 16 }
     ensures sound { Sound 0 (seen_run run.new) }
+    ensures stops { IfErr result (StopsBy (LacksRows opening.entry.mode request.latches)) }
     ensures opened { (s : State) → Stands s (seen_run run.old) → s.line ≡ request.tag → TurnsRange opening.entry.turns →
         OnOk result (Makes (opening_step s opening.entry.session opening.entry.name.now opening.entry.mode request.policy opening.entry.turns request.latches)
         (seen_run run.new) out.old.items out.new.items) }
@@ -57,7 +58,7 @@ pub(crate) fn open<'s>(
     let i = run.lives.len();
     push(run, opening, value);
     write_opening(alloc, run, i, out)?;
-    first_turn(run, i, opening.mode, out)
+    Ok(first_turn(run, i, opening.mode, out)?)
 }
 
 // The request begins, on the pass of its session.
@@ -67,13 +68,14 @@ fn begin(
     session: u32,
     request: Request,
     mode: Mode,
-) -> Result<Value, Memory>
+) -> Result<Value, RunFault>
     requires sound { Sound 0 (seen_run run.old) }
     requires idle { has_open session (seen_run run.old).lives ≡ false }
     requires session { (1 ≤ session) × (session ≤ SESSION_LIMIT) }
     requires few { length request.latches ≤ 16 }
     ensures lent { OnOk result (Sound session (seen_run run.new)) }
     ensures refused { OnErr result (Sound 0 (seen_run run.new)) }
+    ensures stops { IfErr result (StopsBy (LacksRows mode request.latches)) }
     ensures lives { (run.new.lives ≡ run.old.lives) × (run.new.core ≡ run.old.core) × (run.new.lives.items ≡ run.old.lives.items) }
     ensures log { OnOk result (run.new.desk.log ≡ run.old.desk.log ++ next_entry run.old.desk.log session mode request ∷ []) }
     ensures value { IfOk result (λ value. value ≡ begun_value run.old.core.board.table mode (begun_request run.old.desk.log session mode request)) }
@@ -87,10 +89,7 @@ fn begin(
             Mode::Optimistic => Value::Optimist(opened.optimist()),
             Mode::Acquire | Mode::Look => Value::Waiting(opened.waiting()),
         }),
-        Err(SeqRefusal { fault, request: _ }) => match fault {
-            SeqFault::Memory => Err(Memory),
-            SeqFault::LatchesFull { held: _, asked: _ } => unreachable!(),
-        },
+        Err(refusal) => Err(run_fault(refusal)),
     }
 }
 

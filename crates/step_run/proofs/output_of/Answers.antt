@@ -6,8 +6,8 @@ use Rattle.step_run.specs.State.{start}
 use Rattle.step_run.specs.Steps.{run}
 use Rattle.step_run.proofs.output_of.Goals as goal
 
-pub returns : goal.returns
-returns c =
+pub returns-clause-output : goal.returns-clause-output
+returns-clause-output c =
     let cs = c.args.script.now in
     c.in_ok-summary_text.ensures.ok
     ∙ ap (λ s. c.run_all-done.new.out.items ++ summary_text s) (c.summary.ensures ∙ ap (λ (es : List Entry). summary_of es)

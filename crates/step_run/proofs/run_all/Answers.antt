@@ -4,8 +4,10 @@ use Rattle.script.specs.Scripts.{IsCommand}
 use Rattle.latch_model.proofs.Elements.{take_whole}
 use Rattle.std.proofs.lemmas.List.Elements.{All-contains}
 use Rattle.std.proofs.lemmas.List.{length-take-le}
+use Rattle.std.proofs.lemmas.Result.{err_from_is_err_and}
 use Rattle.step_run.proofs.Lives.{get_there, no_items}
 use Rattle.step_run.proofs.Runs.{StandsAfter, allowed_at, none_left, reached, stands_first, stands_next}
+use Rattle.step_run.proofs.Stopping.{script_stops}
 use Rattle.step_run.proofs.run_all.Goals as goal
 
 pub loop-i-init : goal.loop-i-init
@@ -43,6 +45,18 @@ loop-i-preserved c =
           (c.in_ok-step.ensures.step (reached (take i cs)) stands.stands (stands.line ∙ ap (λ k. k + 2) short));
     }
 
+pub returns-in_err-step-clause-stops : goal.returns-in_err-step-clause-stops
+returns-in_err-step-clause-stops c =
+    let i = c.loop-i.i in
+    let cs = c.args.script.now in
+    let item = c.command-item.result in
+    let same = c.commands-command-items.ensures.list in
+    let inside : i < length c.commands-command-items.result.now = omega arith in
+    let here : i < length cs = subst (λ ds. i < length ds) same inside in
+    let at : item ≡ get_or cs i item = subst (λ ds. item ≡ get_or ds i item) same c.command-item.is in
+    let p = err_from_is_err_and c.from_residual.result c.from_residual.ensures.1 in
+    rw (p.1, p.2) (script_stops cs item c.in_err-step.field-0.0 (i, here, sym at) c.in_err-step.ensures.stops)
+
 pub returns : goal.returns
 returns c =
     let cs = c.args.script.now in
@@ -56,4 +70,5 @@ returns c =
       history = stands.stands.history;
       lives = no_items c.loop-i.run.lives.items
           (none_left cs (seen_run c.loop-i.run) c.loop-i.out.items c.commands-command-items.ensures.rules.released stands);
+      stops = tt;
     }

@@ -1,7 +1,13 @@
-use Rattle.std.proofs.Common.{◌≡◌, ◌∙◌, ap}
+use Rattle.std.proofs.Common.{IfErr, List, ◌∙◌, ap, subst}
 use Rattle.std.proofs.lemmas.Result.{IfOk-weaker}
+use Rattle.script.specs.declared.command.Command.{Command}
+use Rattle.step_run.specs.Faults.{ScriptLacks, StopsBy}
 use Rattle.step_run.specs.Steps.{step_output}
 use Rattle.latch_tool.proofs.run.made_output.Goals as goal
 
 pub returns-clause-output : goal.returns-clause-output
 returns-clause-output c = IfOk-weaker c.run_step.result _ _ (λ out e. e ∙ ap step_output c.in_ok-script.ensures) c.run_step.ensures.output
+
+pub returns-clause-stops : goal.returns-clause-stops
+returns-clause-stops c =
+    subst (λ (commands : List Command). IfErr c.run_step.result (StopsBy (ScriptLacks commands))) c.in_ok-script.ensures c.run_step.ensures.stops

@@ -1,8 +1,9 @@
 use Rattle.std.proofs.Common.{◌∙◌, ap, refl, subst, sym}
 use Rattle.latch_tool.specs.Outcomes.{WritesAll, WritesReplay, reading}
 use Rattle.latch_tool.specs.Words.{reads}
-use Rattle.latch_tool.proofs.Endings.{done_is_no_write_fault, same_layout, script_done, writes_replay}
+use Rattle.latch_tool.proofs.Endings.{Completes, done_is_no_write_fault, same_layout, script_done, writes_replay}
 use Rattle.latch_tool.specs.declared.form.Form.TheVariants as form
+use Rattle.latch_tool.specs.declared.form.Form.{Form}
 use Rattle.latch_tool.specs.declared.form.Layout.{Layout}
 use Rattle.latch_tool.specs.declared.status.Status.{Status}
 use Rattle.latch_tool.proofs.run.run.Goals as goal
@@ -23,5 +24,6 @@ returns-in-Replay-clause-complete g c = λ _ has sound kept.
     let before = g.O.Sink.written c.args.sink.now in
     let now = g.O.Sink.written c.replay.new.sink in
     let is = ap reads (sym c.in-Replay.ensures.form) in
-    script_done (form.Replay c.in-Replay.layout) source c.replay.result before now refl (has is) sound
-    (c.replay.ensures.written (λ e. kept (c.replay.ensures.write_fault e)))
+    subst (λ (f : Form). Completes f source c.replay.result) c.in-Replay.ensures.form
+    (script_done (form.Replay c.in-Replay.layout) source c.replay.result before now refl (has is) sound
+    (c.replay.ensures.written (λ e. kept (c.replay.ensures.write_fault e))))

@@ -1,8 +1,9 @@
-use Rattle.std.proofs.Common.{◌≡◌, ℕ, sym, subst}
+use Rattle.std.proofs.Common.{subst}
 use Rattle.latch_model.specs.declared.latch.Mode.TheVariants.{Look}
 use Rattle.latch_manager.specs.Acquiring.{AcquireFails}
 use Rattle.latch_manager.specs.declared.manager.AcquireFault.{AcquireFault}
 use Rattle.replay.proofs.Acquired.{look-cancelled, look-poisoned, look-stands}
+use Rattle.replay.proofs.Refusals.{declined_at_place, declined_for}
 use Rattle.replay.proofs.hand.look_with.Goals as goal
 
 pub returns-in-Ok-clause-stands : goal.returns-in-Ok-clause-stands
@@ -28,3 +29,21 @@ returns-clause-stands g c bs line policy turns latches of is s =
     (λ (x : AcquireFault). AcquireFails g.N.Making.made c.args.pass.now c.args.request Look (g.P.Patience.refusals c.args.patience.now)
     (g.P.Patience.refusals c.wait_for.new.patience) (g.P.Patience.limit c.args.patience.now) x c.wait_for.new.pass)
     c.in-Err-Cancelled.field-0-is c.in-Err-Cancelled.ensures.failed)
+
+pub run_fault-requires : goal.run_fault-requires
+run_fault-requires g c =
+    let failed = subst
+    (λ (x : AcquireFault). AcquireFails g.N.Making.made c.args.pass.now c.args.request Look (g.P.Patience.refusals c.args.patience.now)
+    (g.P.Patience.refusals c.wait_for.new.patience) (g.P.Patience.limit c.args.patience.now) x c.wait_for.new.pass)
+    c.in-Err-Seq.field-0-is c.in-Err-Seq.ensures.failed in
+    declined_at_place g.N.Making.made c.args.pass.now Look c.args.request c.in-Err-Seq.refusal.fault c.wait_for.new.pass failed.0
+    c.requires.sizes c.requires.few
+
+pub returns-in-Err-Seq-clause-stops : goal.returns-in-Err-Seq-clause-stops
+returns-in-Err-Seq-clause-stops g c =
+    let failed = subst
+    (λ (x : AcquireFault). AcquireFails g.N.Making.made c.args.pass.now c.args.request Look (g.P.Patience.refusals c.args.patience.now)
+    (g.P.Patience.refusals c.wait_for.new.patience) (g.P.Patience.limit c.args.patience.now) x c.wait_for.new.pass)
+    c.in-Err-Seq.field-0-is c.in-Err-Seq.ensures.failed in
+    declined_for g.N.Making.made c.args.pass.now Look c.args.request c.in-Err-Seq.refusal.fault c.wait_for.new.pass failed.0
+    c.run_fault.result c.run_fault.ensures

@@ -1,6 +1,11 @@
-use Rattle.std.proofs.Common.{◌≡◌, ◌∷◌, [], ◌++◌, List, sym, subst}
+use Rattle.std.proofs.Common.{◌∷◌, [], ◌++◌, sym, subst}
 use Rattle.std.proofs.lemmas.Result.{IfOk-weaker}
+use Rattle.std.specs.Prelude.{IfErr}
+use Rattle.latch_model.specs.Declaration.{Declaration}
 use Rattle.latch_model.specs.declared.latch.Mode.{Mode}
+use Rattle.latch_model.specs.declared.latch.Mode.TheVariants.{Acquire, Look, Optimistic}
+use Rattle.sequence_core.specs.Says.{LacksRows}
+use Rattle.step_run.specs.Faults.{StopsBy}
 use Rattle.replay.specs.Blocks.{new_block}
 use Rattle.replay.specs.Sessions.{Standing}
 use Rattle.replay.proofs.session.begin.Goals as goal
@@ -28,3 +33,18 @@ returns-in-Look-clause-stands g c =
     (λ (m : Mode). Standing g.N.Making.made.table c.look.new.pass.p
     (bs ++ new_block c.args.line m c.args.policy c.args.turns c.args.latches.now ∷ []) next)
     (sym c.in-Look.is) (f bs c.args.line c.args.policy c.args.latches.now c.in_ok-request.ensures s)) c.look.ensures.stands
+
+pub returns-in-Acquire-clause-stops : goal.returns-in-Acquire-clause-stops
+returns-in-Acquire-clause-stops g c =
+    subst (λ (m : Mode). IfErr c.acquire.result (StopsBy (LacksRows m c.args.latches.now))) (sym c.in-Acquire.is)
+    (subst (λ (r : Declaration). IfErr c.acquire.result (StopsBy (LacksRows Acquire r.latches))) c.in_ok-request.ensures c.acquire.ensures.stops)
+
+pub returns-in-Optimistic-clause-stops : goal.returns-in-Optimistic-clause-stops
+returns-in-Optimistic-clause-stops g c =
+    subst (λ (m : Mode). IfErr c.optimistic.result (StopsBy (LacksRows m c.args.latches.now))) (sym c.in-Optimistic.is)
+    (subst (λ (r : Declaration). IfErr c.optimistic.result (StopsBy (LacksRows Optimistic r.latches))) c.in_ok-request.ensures c.optimistic.ensures.stops)
+
+pub returns-in-Look-clause-stops : goal.returns-in-Look-clause-stops
+returns-in-Look-clause-stops g c =
+    subst (λ (m : Mode). IfErr c.look.result (StopsBy (LacksRows m c.args.latches.now))) (sym c.in-Look.is)
+    (subst (λ (r : Declaration). IfErr c.look.result (StopsBy (LacksRows Look r.latches))) c.in_ok-request.ensures c.look.ensures.stops)

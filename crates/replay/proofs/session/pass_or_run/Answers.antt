@@ -1,8 +1,9 @@
-use Rattle.std.proofs.Common.{◌≡◌, ℕ, ◌+◌, false, true, Option, refl, sym, ◌∙◌, subst}
+use Rattle.std.proofs.Common.{ℕ, ◌+◌, Option, refl, sym, ◌∙◌, subst}
 use Rattle.std.proofs.lemmas.Option.{slice_get_read}
 use Rattle.replay.specs.Running.{IsAt, Ran, SomeTurns}
 use Rattle.replay.proofs.Commands.{at-other, at-own}
-use Rattle.replay.proofs.Owning.{fit-at, own-is, some-turns}
+use Rattle.replay.proofs.Owning.{own-is, some-turns}
+use Rattle.step_run.proofs.Stopping.{script_stops}
 use Rattle.replay.proofs.session.pass_or_run.Goals as goal
 
 pub returns-then-not-is_own-clause-at : goal.returns-then-not-is_own-clause-at
@@ -36,3 +37,7 @@ returns-in-Ok-clause-at g c =
     c.run_command-ran.new.pass c.in-Ok.next)
     c.turns_of-turns.ensures c.in-Ok.ensures.ran)
     c.in-Ok.ensures.tied c.requires.at)
+
+pub returns-in-Err-clause-stops : goal.returns-in-Err-clause-stops
+returns-in-Err-clause-stops g c =
+    script_stops c.args.commands.now c.index-commands-i.result c.in-Err.fault (c.args.i, c.requires.inside, sym c.index-commands-i.is) c.in-Err.ensures.stops

@@ -1,10 +1,10 @@
-use Rattle.std.proofs.Common.{◌≡◌, ◌≢◌, ℕ, List, refl, sym, subst}
+use Rattle.std.proofs.Common.{refl, sym, subst}
 use Rattle.std.proofs.lemmas.Result.{IfOk-weaker}
 use Rattle.script.specs.declared.command.Command.{Command}
-use Rattle.script.specs.declared.command.Command.TheVariants.{Poison, Release, Wait, Check}
-use Rattle.script.specs.Follows.{Block}
-use Rattle.replay.specs.Running.{NextHand, Ran, RunsTo}
-use Rattle.replay.specs.Sessions.{Hand}
+use Rattle.script.specs.declared.command.Command.TheVariants.{Wait}
+use Rattle.replay.specs.Running.{NextHand, RunsTo}
+use Rattle.std.specs.Prelude.{IfErr}
+use Rattle.step_run.specs.Faults.{OpeningLacks, StopsBy}
 use Rattle.replay.proofs.session.run_command.Goals as goal
 
 pub returns-in-Begin-clause-tied : goal.returns-in-Begin-clause-tied
@@ -16,11 +16,10 @@ returns-in-Wait-clause-ran g c bs ds runs s =
     let r = subst (λ (k : Command). RunsTo c.args.line c.args.turns k c.args.hand bs ds) c.in-Wait.is runs in
     c.wait.ensures.stands bs ds (Wait c.in-Wait.name) r.0 r.1 refl refl r.2 s
 
-pub returns-in-Check-clause-ran : goal.returns-in-Check-clause-ran
-returns-in-Check-clause-ran g c =
-    IfOk-weaker c.check.result _ _ (λ next f bs ds runs s.
+pub returns-in_ok-check-in-Check-clause-ran : goal.returns-in_ok-check-in-Check-clause-ran
+returns-in_ok-check-in-Check-clause-ran g c bs ds runs s =
     let r = subst (λ (k : Command). RunsTo c.args.line c.args.turns k c.args.hand bs ds) c.in-Check.is runs in
-    f bs ds c.in-Check.name r.0 r.1 s) c.check.ensures.stands
+    c.in_ok-check-in-Check.ensures.stands bs ds c.in-Check.name r.0 r.1 s
 
 pub returns-in-Poison-clause-given : goal.returns-in-Poison-clause-given
 returns-in-Poison-clause-given g c = c.poison.ensures.given c.args.pass.now.p c.requires.given
@@ -34,3 +33,7 @@ pub returns-in-Release-clause-ran : goal.returns-in-Release-clause-ran
 returns-in-Release-clause-ran g c bs ds runs s =
     let r = subst (λ (k : Command). RunsTo c.args.line c.args.turns k c.args.hand bs ds) c.in-Release.is runs in
     c.release.ensures.stands bs ds c.in-Release.name r.0 r.1 s
+
+pub returns-in-Begin-clause-stops : goal.returns-in-Begin-clause-stops
+returns-in-Begin-clause-stops g c =
+    subst (λ (k : Command). IfErr c.open.result (StopsBy (OpeningLacks k))) (sym c.in-Begin.is) c.open.ensures.stops

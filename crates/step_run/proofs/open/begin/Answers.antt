@@ -10,6 +10,7 @@ use Rattle.signal_board.specs.Says.{PassSays}
 use Rattle.step_run.specs.Lives.{has_open}
 use Rattle.step_run.proofs.Lives.{get_there}
 use Rattle.step_run.proofs.Sounding.{sound_passed}
+use Rattle.step_run.proofs.Stopping.{finds_place, lacks_rows}
 use Rattle.step_run.proofs.open.begin.Goals as goal
 use Rattle.step_run.proofs.open.begin.Goals.{in-Optimistic, in-Acquire}
 
@@ -29,8 +30,8 @@ begin-requires-clause-idle c =
     (c.requires.sound.passes (c.args.session - 1) p at).idle (λ z. absurd (omega arith))
     (subst (λ j. has_open j (seen_run c.args.run.now).lives ≡ false) (sym back) c.requires.idle)
 
-pub returns-in-Memory-clause-refused : goal.returns-in-Memory-clause-refused
-returns-in-Memory-clause-refused c =
+pub returns-in-Err-clause-refused : goal.returns-in-Err-clause-refused
+returns-in-Err-clause-refused c =
     let p = c.index_mut.result.now in
     let q = c.begin.new.pass in
     let r : RunSays = seen_run c.args.run.now in
@@ -55,8 +56,8 @@ returns-in-Memory-clause-refused c =
     (λ j z d n. z)
     c.requires.sound)
 
-pub returns-in-Ok-clause-lent : goal.returns-in-Ok-clause-lent
-returns-in-Ok-clause-lent c =
+pub returns-after-mode-clause-lent : goal.returns-after-mode-clause-lent
+returns-after-mode-clause-lent c =
     let p = c.index_mut.result.now in
     let q = c.begin.new.pass in
     let r : RunSays = seen_run c.args.run.now in
@@ -78,8 +79,8 @@ returns-in-Ok-clause-lent c =
     (λ j z d n. z)
     c.requires.sound)
 
-pub returns-in-Ok-clause-log : goal.returns-in-Ok-clause-log
-returns-in-Ok-clause-log c =
+pub returns-after-mode-clause-log : goal.returns-after-mode-clause-log
+returns-after-mode-clause-log c =
     let p = c.index_mut.result.now in
     let inside : c.args.session - 1 < length c.args.run.now.passes.items = omega (arith, c.requires.sound.count, c.requires.session.1, c.requires.session.0) in
     let at = get_there c.args.run.now.passes.items (c.args.session - 1) p c.index_mut.ensures.value inside in
@@ -88,8 +89,8 @@ returns-in-Ok-clause-log c =
     ap (λ (d : DeskState). d.log) c.in-Ok.ensures.desk
     ∙ ap (λ k. c.args.run.now.desk.log ++ next_entry c.args.run.now.desk.log k c.args.mode c.args.request ∷ []) who
 
-pub returns-in-Ok-clause-value : goal.returns-in-Ok-clause-value
-returns-in-Ok-clause-value c =
+pub returns-after-mode-clause-value : goal.returns-after-mode-clause-value
+returns-after-mode-clause-value c =
     let p = c.index_mut.result.now in
     let inside : c.args.session - 1 < length c.args.run.now.passes.items = omega (arith, c.requires.sound.count, c.requires.session.1, c.requires.session.0) in
     let at = get_there c.args.run.now.passes.items (c.args.session - 1) p c.index_mut.ensures.value inside in
@@ -103,3 +104,11 @@ returns-in-Ok-clause-value c =
       | in-Acquire w ↦ w.result-is ∙ value_waiting c.args.run.now.core.board.table c.args.mode (begun_request log p.p.who c.args.mode c.args.request)
           w.waiting.result c.in-Ok.opened w.in-Acquire.is w.waiting.ensures c.requires.sound.table c.in-Ok.ensures.opened ∙ same
     ]
+
+pub run_fault-requires : goal.run_fault-requires
+run_fault-requires c =
+    finds_place c.args.run.now.desk c.args.mode c.args.request.latches c.in-Err.refusal.fault c.requires.sound.sizes c.requires.few c.in-Err.ensures.refused
+
+pub returns-in-Err-clause-stops : goal.returns-in-Err-clause-stops
+returns-in-Err-clause-stops c =
+    lacks_rows c.args.run.now.desk c.args.mode c.args.request.latches c.in-Err.refusal.fault c.run_fault.result c.in-Err.ensures.refused c.run_fault.ensures

@@ -1,7 +1,6 @@
 use Rattle.std.proofs.Common.{◌≡◌, [], ◌∷◌, ◌++◌, List, length, map, Some, sym, ap, ◌∙◌, subst, arith, vec_len}
 use Rattle.std.specs.Prelude.{slice_get, vec_capacity}
 use Rattle.std.proofs.lemmas.List.{length-map}
-use Rattle.std.proofs.lemmas.Result.{on_ok_weaker}
 use Rattle.waiter.specs.declared.opened.Core.{Core}
 use Rattle.step_run.specs.Lives.{IsOf, LiveSays, has_open, seen_live}
 use Rattle.sequence_core.specs.Says.{DeskState}
@@ -67,10 +66,9 @@ returns-clause-opened c = λ s h line range.
     (c.push.ensures.lives ∙ ap (λ (xs : List LiveSays). xs ++ l ∷ []) kept) in
     let at : slice_get (seen_run c.push.new.run).lives c.len-i.result ≡ Some l =
     ap (λ k. slice_get (seen_run c.push.new.run).lives k) (sym place) ∙ pushed_at ls (seen_run c.push.new.run).lives l c.push.ensures.lives in
-    on_ok_weaker c.first_turn.result
-    (λ m. a.makes (seen_run c.first_turn.new.run) c.args.out.now.items c.write_opening.new.out.items c.first_turn.new.out.items
-    (c.in_ok-write_opening.ensures.line l at) m)
-    (c.first_turn.ensures.turn a.state a.name (subst (λ (q : RunSays). Stands a.state q) (sym c.in_ok-write_opening.ensures.run) a.stands)
+    a.makes (seen_run c.first_turn.new.run) c.args.out.now.items c.write_opening.new.out.items c.first_turn.new.out.items
+    (c.in_ok-write_opening.ensures.line l at)
+    (c.in_ok-first_turn.ensures.turn a.state a.name (subst (λ (q : RunSays). Stands a.state q) (sym c.in_ok-write_opening.ensures.run) a.stands)
     (ap (λ k. slice_get a.state.names k) (sym here) ∙ a.at) a.phase)
 
 pub first_turn-requires-clause-sound : goal.first_turn-requires-clause-sound
