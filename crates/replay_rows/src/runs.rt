@@ -252,13 +252,48 @@ fn short_script(alloc: Global, seed: &mut u64) -> Result<Vec<u8>, AllocError> {
     Ok(text)
 }
 
-#[test]
-fn a_thousand_short_runs(rt: HostRuntime) -> Result<(), Fail> {
-    let mut seed = 1;
-    for _ in 0..1000 {
-        let text = short_script(rt.alloc(), &mut seed)?;
-        let history = history_of(&rt, rt.alloc(), text.as_slice(), &NoGate);
-        assert!(&rt; history.entries.len() == 16);
+// Two hundred runs of such scripts, whose kinds are told by this number. A run starts a thread for each of its 64 sessions, so a
+// thousand runs in one test are too many for its time where other work goes on beside it.
+fn short_runs<R: Threads + Wait + Sync + Abort>(
+    rt: &R,
+    alloc: Global,
+    first: u64,
+) -> Result<(), AllocError> {
+    let mut seed = first;
+    for _ in 0..200 {
+        let text = short_script(alloc, &mut seed)?;
+        let history = history_of(rt, alloc, text.as_slice(), &NoGate);
+        assert!(rt; history.entries.len() == 16);
     }
+    Ok(())
+}
+
+#[test]
+fn short_runs_from_1(rt: HostRuntime) -> Result<(), Fail> {
+    short_runs(&rt, rt.alloc(), 1)?;
+    Ok(())
+}
+
+#[test]
+fn short_runs_from_2(rt: HostRuntime) -> Result<(), Fail> {
+    short_runs(&rt, rt.alloc(), 2)?;
+    Ok(())
+}
+
+#[test]
+fn short_runs_from_3(rt: HostRuntime) -> Result<(), Fail> {
+    short_runs(&rt, rt.alloc(), 3)?;
+    Ok(())
+}
+
+#[test]
+fn short_runs_from_4(rt: HostRuntime) -> Result<(), Fail> {
+    short_runs(&rt, rt.alloc(), 4)?;
+    Ok(())
+}
+
+#[test]
+fn short_runs_from_5(rt: HostRuntime) -> Result<(), Fail> {
+    short_runs(&rt, rt.alloc(), 5)?;
     Ok(())
 }
