@@ -21,13 +21,15 @@ use Rattle.latch_item.specs.Shape.{Among, IsTree, Stands}
 use Rattle.latch_shots.specs.Held.{held_as}
 use Rattle.latch_shots.specs.Roots.{AreRoots, HasRoot, Root}
 use Rattle.held_latches.specs.Content.{Content, EachOf, IsIn, held_of, items_in, placed_items, read_items}
-use Rattle.held_latches.specs.Holding.{Holds, IsSound, Kept, size_of}
+use Rattle.held_latches.specs.Holding.{Holds, IsSound, size_of}
 use Rattle.held_latches.specs.Lists.{no_lists, total}
 use Rattle.held_latches.specs.Scopes.{HasContent, aside_in, aside_of, many_of}
 use Rattle.held_latches.specs.Steps.{free_rows}
 use Rattle.held_latches.specs.Stock.{Placed, rows_of, tree_root}
 use Rattle.held_latches.specs.declared.held.HeldLatches.{HeldLatches}
 use Rattle.held_latches.specs.declared.scopes.ScopeTrees.{ScopeTrees}
+use Rattle.span_key.specs.declared.scopes.Scope.TheVariants.{Global, Local}
+use Rattle.held_latches.proofs.Scoped.{has-content}
 
 -- ---- the order keeps lengths
 length-with : (x : HeldLatch) (ys : List HeldLatch) → length (with_latch x ys) ≡ suc (length ys)
@@ -52,23 +54,6 @@ pub reads-many : (c : Content) → length (in_order (held_of Read (read_items c)
 reads-many c =
     let a = ordered-many Read (read_items c) in let b = length-append (items_in c.reads) (placed_items c.pending) in
     let d = length-map c.reads item_of in let e = length-map c.pending (λ (p : Placed). p.item) in omega arith
-
--- ---- what each scope has
-pub has-global : (h : HeldLatches) (g l : Content) → Kept h g l → HasContent h.global g
-has-global h g l k = record {
-  fits_writes = k.fits_global.0;
-  fits_reads = k.fits_global.1;
-  listed = (h.pool.seat.view, k.listed_global);
-  few = (let a = k.few in omega arith);
-}
-
-pub has-local : (h : HeldLatches) (g l : Content) → Kept h g l → HasContent h.local l
-has-local h g l k = record {
-  fits_writes = k.fits_local.0;
-  fits_reads = k.fits_local.1;
-  listed = (h.pool.seat.view, k.listed_local);
-  few = (let a = k.few in omega arith);
-}
 
 pub total-of : (h : HeldLatches) (s : Snapshot) (n : ℕ) (o : Holds h s n) → many_of o.global + many_of o.local ≡ total s
 total-of h s n o =
@@ -129,7 +114,7 @@ all-free h o =
       free = k.stock.free;
       chained = k.stock.chained;
       all = λ q x has. ⊎_elim (λ m. m) (λ m. absurd (nothing q (subst (λ ps. mem q (rows_of ps) ≡ true) pending m))) (k.stock.all q x has);
-      aside = (aside-many h.global g (has-global h g l k) ∙ omega arith, aside-many h.local l (has-local h g l k) ∙ omega arith);
+      aside = (aside-many h.global g (has-content Global h g l k) ∙ omega arith, aside-many h.local l (has-content Local h g l k) ∙ omega arith);
     }
   where
     nothing : (q : ℕ) → mem q [] ≡ true → ⊥

@@ -1,34 +1,33 @@
 -- The latch of one place comes to all.
 use Rattle.std.proofs.Common.{◌≡◌, ◌≢◌, ⊎_elim, ℕ, suc, ◌+◌, ◌*◌, ◌<◌, ◌≤◌, ◌&&◌, true, false, Bool, cond}
-use Rattle.std.proofs.Common.{List, [], ◌∷◌, ◌++◌, length, slice_index, slice_index_or, set, drop}
+use Rattle.std.proofs.Common.{List, [], ◌∷◌, length, slice_index, slice_index_or, set, drop}
 use Rattle.std.proofs.Common.{ap, sym, refl, ◌∙◌, subst, arith}
 use Rattle.std.proofs.Math.Seq.{drop-cons}
-use Rattle.std.proofs.lemmas.List.{append-nil, drop_all, get_or-set_other, get_or-set_same, length-set}
-use Rattle.latch_model.specs.Histories.{HeldLatch, Snapshot, comes_first, in_order, with_latch}
+use Rattle.std.proofs.lemmas.List.{drop_all, get_or-set_other, get_or-set_same, length-set}
+use Rattle.latch_model.specs.Histories.{HeldLatch, Snapshot, comes_first, in_order, list_of, with_latch}
 use Rattle.latch_model.specs.Latches.{at_normal, has_access, in_scope, normal, reads, writes}
 use Rattle.span_key.specs.Scopes.{scope_if, scope_of}
 use Rattle.span_key.specs.Spans.{is_local}
+use Rattle.span_key.specs.declared.scopes.Scope.{Scope}
 use Rattle.span_key.specs.declared.scopes.Scope.TheVariants.{Global, Local}
 use Rattle.latch_model.specs.declared.latch.Access.{Access}
 use Rattle.latch_model.specs.declared.latch.Access.TheVariants.{Read, Write}
 use Rattle.latch_model.specs.declared.latch.Latch.{Latch}
-use Rattle.row_pool.specs.Lists.{mem}
 use Rattle.latch_item.specs.Items.{Item, item_of}
 use Rattle.latch_shots.specs.Held.{held_as}
-use Rattle.held_latches.specs.Content.{Apart, Content, EachOf, held_of, items_in, placed_items, read_items}
-use Rattle.held_latches.specs.Holding.{Beside, Filed, Holds, IsSound, Kept, MayInsert, own_latch, slot_of}
-use Rattle.held_latches.specs.Lists.{inserted, own_from, with_held, with_if}
-use Rattle.held_latches.specs.Scopes.{Added, Around}
-use Rattle.held_latches.specs.Steps.{PoolHas, SamePool}
-use Rattle.held_latches.specs.Stock.{Fits, Placed, rows_of, tree_root}
-use Rattle.read_list.specs.Lists.{IsReadList}
-use Rattle.read_list.proofs.Links.{list-stays}
+use Rattle.held_latches.specs.Content.{AllApart, Apart, Content, EachOf, held_of, items_in, placed_items, read_items}
+use Rattle.held_latches.specs.Holding.{Beside, Filed, HasSpare, Holds, IsSound, MayInsert, own_latch, slot_of, writer_of}
+use Rattle.held_latches.specs.Lists.{inserted, own_from, total, with_held, with_if}
+use Rattle.held_latches.specs.Scopes.{Added, Around, ScopeHas, aside_of, many_of}
+use Rattle.held_latches.specs.Steps.{SamePool}
+use Rattle.held_latches.specs.Stock.{Placed}
 use Rattle.held_latches.specs.declared.held.HeldLatches.{HeldLatches}
 use Rattle.held_latches.specs.declared.pool.Pool.{Pool}
 use Rattle.held_latches.specs.declared.scopes.ScopeTrees.{ScopeTrees}
 use Rattle.held_latches.proofs.Counting.{total-of}
 use Rattle.held_latches.proofs.Contents.{each-append, each-map}
-use Rattle.held_latches.proofs.Keeping.{around-global, around-local, each-among, each-held, each-ordered, each-placed}
+use Rattle.held_latches.proofs.Keeping.{each-among, each-item, each-placed}
+use Rattle.held_latches.proofs.Scoped.{ListsAre, around, changed, content_of, each-in, lists-are, other, scope-has, scope-sound, sum-both, trees_of, with_scope}
 
 -- ---- where an item may stand in the table
 -- an item's place is another than a slot
@@ -128,45 +127,46 @@ beside-elsewhere : (id lane j : ℕ) (a : Access) (y : Item) → j < 16 → Besi
 beside-elsewhere id lane j a y low b e =
     let c = b.low in let same : y.lane ≡ lane = (let d = e in omega arith) in let f = b.other_lane same in omega arith
 
-pub each-item : (P : HeldLatch → Type 0) (Q : Item → Type 0) (a : Access) (xs : List HeldLatch) (items : List Item) → ((y : Item) → P (held_as a y) → Q y)
-    → xs ≡ in_order (held_of a items) → EachOf P xs → EachOf Q items
-each-item P Q a xs items f is h =
-    each-map (λ y. P (held_as a y)) Q f items (each-held P a items (each-ordered P (held_of a items) (subst (EachOf P) is h)))
-
 -- ---- what is known before
-pub record Ready (h : HeldLatches) (t : ScopeTrees) (table : List ℕ) (c : Content) (id lane j : ℕ) (l : Latch) : Type 0 where
+pub record Ready (c : Content) (id lane j : ℕ) (l : Latch) : Type 0 where
   pub apart_writes : EachOf (λ y. Apart y (item-with id lane j l)) (items_in c.writes)
   pub apart_reads : EachOf (λ y. Apart y (item-with id lane j l)) (read_items c)
   pub elsewhere : EachItem (Elsewhere (lane * 16 + j)) c
 
-ready : (h : HeldLatches) (t : ScopeTrees) (table : List ℕ) (c : Content) (id lane j : ℕ) (l : Latch) (ws rs : List HeldLatch)
-    → ws ≡ in_order (held_of Write (items_in c.writes)) → rs ≡ in_order (held_of Read (read_items c)) → EachOf (Beside id lane (suc j)) ws
-    → EachOf (Beside id lane (suc j)) rs → j < 16 → Ready h t table c id lane j l
-ready h t table c id lane j l ws rs w r bw br low = record {
-  apart_writes = each-item (Beside id lane (suc j)) (λ y. Apart y (item-with id lane j l)) Write ws (items_in c.writes)
-      (λ y b. beside-apart id lane j l Write y b) w bw;
-  apart_reads = each-item (Beside id lane (suc j)) (λ y. Apart y (item-with id lane j l)) Read rs (read_items c)
-      (λ y b. beside-apart id lane j l Read y b) r br;
-  elsewhere = record {
-    of_writes = each-item (Beside id lane (suc j)) (Elsewhere (lane * 16 + j)) Write ws (items_in c.writes)
-        (λ y b. beside-elsewhere id lane j Write y low b) w bw;
-    of_reads = each-item (Beside id lane (suc j)) (Elsewhere (lane * 16 + j)) Read rs (read_items c) (λ y b. beside-elsewhere id lane j Read y low b) r br;
-  };
-}
+ready : (scope : Scope) (h : HeldLatches) (s : Snapshot) (n more id lane j : ℕ) (l : Latch) (m : MayInsert h s n more id lane (suc j))
+    → Ready (content_of scope m.has.holds) id lane j l
+ready scope h s n more id lane j l m =
+    let c = content_of scope m.has.holds in let lists = lists-are scope h s n m.has.holds in
+    let ws = list_of s scope Write in let bw = each-in (Beside id lane (suc j)) s scope Write m.apart in
+    let rs = list_of s scope Read in let br = each-in (Beside id lane (suc j)) s scope Read m.apart in
+    let low : j < 16 = (let b = m.low in omega arith) in record {
+      apart_writes = each-item (Beside id lane (suc j)) (λ y. Apart y (item-with id lane j l)) Write ws (items_in c.writes)
+          (λ y b. beside-apart id lane j l Write y b) lists.writes bw;
+      apart_reads = each-item (Beside id lane (suc j)) (λ y. Apart y (item-with id lane j l)) Read rs (read_items c)
+          (λ y b. beside-apart id lane j l Read y b) lists.reads br;
+      elsewhere = record {
+        of_writes = each-item (Beside id lane (suc j)) (Elsewhere (lane * 16 + j)) Write ws (items_in c.writes)
+            (λ y b. beside-elsewhere id lane j Write y low b) lists.writes bw;
+        of_reads = each-item (Beside id lane (suc j)) (Elsewhere (lane * 16 + j)) Read rs (read_items c)
+            (λ y b. beside-elsewhere id lane j Read y low b) lists.reads br;
+      };
+    }
 
-pub ready-global : (h : HeldLatches) (s : Snapshot) (n id lane j : ℕ) (l : Latch) (m : MayInsert h s n id lane (suc j))
-    → Ready h h.global h.rows.items m.has.holds.global id lane j l
-ready-global h s n id lane j l m =
-    ready h h.global h.rows.items m.has.holds.global id lane j l s.global_writes s.global_reads
-    m.has.holds.global_writes m.has.holds.global_reads m.apart.1 m.apart.0
-    (let b = m.low in omega arith)
-
-pub ready-local : (h : HeldLatches) (s : Snapshot) (n id lane j : ℕ) (l : Latch) (m : MayInsert h s n id lane (suc j))
-    → Ready h h.local h.rows.items m.has.holds.local id lane j l
-ready-local h s n id lane j l m =
-    ready h h.local h.rows.items m.has.holds.local id lane j l s.local_writes s.local_reads
-    m.has.holds.local_writes m.has.holds.local_reads m.apart.3 m.apart.2
-    (let b = m.low in omega arith)
+-- the latch can come to its scope's trees
+pub may-add : (scope : Scope) (h : HeldLatches) (s : Snapshot) (n more id lane j : ℕ) (l : Latch) → MayInsert h s n more id lane (suc j)
+    → (c : Content) × (a : Around) × ScopeHas h.pool (trees_of scope h) c a × EachOf (λ y. Apart y (item-with id lane j l)) (items_in c.writes)
+    × EachOf (λ y. Apart y (item-with id lane j l)) (read_items c) × AllApart (items_in c.writes) × AllApart (read_items c) × (length c.writes < 8190)
+may-add scope h s n more id lane j l m =
+    let o = m.has.holds in let r = ready scope h s n more id lane j l m in let sound = scope-sound scope h o.global o.local o.kept in (
+      content_of scope o,
+      around scope (trees_of (other scope) h) (content_of (other scope) o),
+      scope-has scope h o.global o.local o.kept,
+      r.apart_writes,
+      r.apart_reads,
+      sound.writes_apart,
+      sound.reads_apart,
+      (let a = m.fits in let b = total-of h s n o in let c = sum-both many_of scope o.global o.local in omega arith),
+    )
 
 -- ---- what is known afterwards
 beside-less : (id lane j : ℕ) (y : HeldLatch) → Beside id lane (suc j) y → Beside id lane j y
@@ -179,128 +179,6 @@ beside-less id lane j y b = record {
 beside-own : (id lane j : ℕ) (l : Latch) → j < 16 → Beside id lane j (own_latch id lane j l)
 beside-own id lane j l low = record { other_request = λ e. omega arith; other_lane = λ e. omega arith; low = low }
 
-abbrev HasRows : HeldLatches → List ℕ → Type 0
-HasRows h table = h.rows.items ≡ table
-
-pub inserted-global : (h k : HeldLatches) (s : Snapshot) (n id lane j row : ℕ) (l : Latch) (m : MayInsert h s n id lane (suc j)) → (d : Content)
-    → Added h.pool k.pool h.global k.global m.has.holds.global d (around-global h m.has.holds.local) row (item-with id lane j l) l.access
-    → SamePool h.pool k.pool → k.global.writer ≡ h.global.writer → k.local ≡ h.local → HasRows k (set h.rows.items (lane * 16 + j) row)
-    → in_scope Global (at_normal l) ≡ true → in_scope Local (at_normal l) ≡ false → MayInsert k (with_held (own_latch id lane j l) s) n id lane j
-unfolding around-global
-inserted-global h k s n id lane j row l m d g same writer other rows here away =
-    let o = m.has.holds in let old = o.kept in let c = o.global in let x = item-with id lane j l in
-    let r = ready-global h s n id lane j l m in let q = ready-local h s n id lane j l m in
-    let slot : lane * 16 + j < length h.rows.items = (let a = m.within in let b = m.low in omega arith) in
-    let low : j < 16 = (let b = m.low in omega arith) in
-    let kept : Kept k d o.local = record {
-      stock = subst (λ (t : ScopeTrees). PoolHas k.pool (tree_root k.global.writes d.writes ∷ tree_root k.global.reads d.reads
-          ∷ tree_root t.writes o.local.writes ∷ tree_root t.reads o.local.reads ∷ []) (d.pending ++ o.local.pending)) (sym other) g.has.stock;
-      fits_global = (g.has.fits_writes, g.has.fits_reads);
-      fits_local = subst (λ (t : ScopeTrees). Fits t.writes o.local.writes × Fits t.reads o.local.reads) (sym other) old.fits_local;
-      listed_global = g.has.listed;
-      listed_local = subst (λ (t : ScopeTrees). IsReadList k.pool.seat.view t.pending (rows_of o.local.pending)) (sym other)
-          (list-stays h.pool.seat.view k.pool.seat.view h.local.pending (rows_of o.local.pending) g.stay old.listed_local);
-      sound_global = subst (λ table. IsSound k.global table d) (sym rows)
-          (sound-added h.pool k.pool h.global k.global h.rows.items (lane * 16 + j) row x l.access c d (around-global h o.local) old.sound_global r.elsewhere
-          slot refl low m.writers.0 writer g);
-      sound_local = subst (λ (t : ScopeTrees). IsSound t k.rows.items o.local) (sym other) (subst (λ table. IsSound h.local table o.local) (sym rows)
-          (sound-else h.local h.rows.items (lane * 16 + j) row o.local old.sound_local q.elsewhere slot));
-      set_aside = (let a = m.has.spare in let b = g.spent in omega arith);
-      few = (let a = m.fits in let b = g.many in let c = total-of h s n o in omega arith);
-    } in
-    let held : Holds k (with_held (own_latch id lane j l) s) n = record {
-      global = d;
-      local = o.local;
-      kept = kept;
-      global_reads = with-true (in_scope Global (at_normal l)) (reads l.access) (own_latch id lane j l) s.global_reads here
-          ∙ ap (with_if (reads l.access) (own_latch id lane j l)) o.global_reads
-          ∙ with-reads l.access x (in_order (held_of Read (read_items c))) ∙ sym g.order_reads;
-      global_writes = with-true (in_scope Global (at_normal l)) (writes l.access) (own_latch id lane j l) s.global_writes here
-          ∙ ap (with_if (writes l.access) (own_latch id lane j l)) o.global_writes
-          ∙ with-writes l.access x (in_order (held_of Write (items_in c.writes))) ∙ sym g.order_writes;
-      local_reads = with-false (in_scope Local (at_normal l)) (reads l.access) (own_latch id lane j l) s.local_reads away ∙ o.local_reads;
-      local_writes = with-false (in_scope Local (at_normal l)) (writes l.access) (own_latch id lane j l) s.local_writes away ∙ o.local_writes;
-      out = ap (λ (z : List (ℕ × ℕ)). length z) same.1.out ∙ o.out;
-    } in
-    record {
-      has = record { holds = held; spare = (let a = m.has.spare in let b = g.spent in omega arith) };
-      fits = (let a = m.fits in let b = g.many in let c = total-of h s n o in let e = total-of k (with_held (own_latch id lane j l) s) n held in omega arith);
-      low = (let a = m.low in omega arith);
-      within = (let a = m.within in let b = ap (λ (z : List ℕ). length z) rows ∙ length-set h.rows.items (lane * 16 + j) row in omega arith);
-      writers = (subst (λ w. w ≤ id) (sym writer) m.writers.0, subst (λ (t : ScopeTrees). t.writer ≤ id) (sym other) m.writers.1);
-      apart = (
-        each s.global_reads (in_scope Global (at_normal l) && has_access Read (at_normal l)) m.apart.0,
-        each s.global_writes (in_scope Global (at_normal l) && has_access Write (at_normal l)) m.apart.1,
-        each s.local_reads (in_scope Local (at_normal l) && has_access Read (at_normal l)) m.apart.2,
-        each s.local_writes (in_scope Local (at_normal l) && has_access Write (at_normal l)) m.apart.3,
-      );
-    }
-  where
-    each : (ys : List HeldLatch) (b : Bool) → EachOf (Beside id lane (suc j)) ys → EachOf (Beside id lane j) (with_if b (own_latch id lane j l) ys)
-    each ys b h = each-with-if (Beside id lane j) b (own_latch id lane j l) ys (beside-own id lane j l (let a = m.low in omega arith))
-        (each-map (Beside id lane (suc j)) (Beside id lane j) (beside-less id lane j) ys h)
-
-pub inserted-local : (h k : HeldLatches) (s : Snapshot) (n id lane j row : ℕ) (l : Latch) (m : MayInsert h s n id lane (suc j)) → (d : Content)
-    → Added h.pool k.pool h.local k.local m.has.holds.local d (around-local h m.has.holds.global) row (item-with id lane j l) l.access
-    → SamePool h.pool k.pool → k.local.writer ≡ h.local.writer → k.global ≡ h.global → HasRows k (set h.rows.items (lane * 16 + j) row)
-    → in_scope Global (at_normal l) ≡ false → in_scope Local (at_normal l) ≡ true → MayInsert k (with_held (own_latch id lane j l) s) n id lane j
-unfolding around-local
-inserted-local h k s n id lane j row l m d g same writer other rows away here =
-    let o = m.has.holds in let old = o.kept in let c = o.local in let x = item-with id lane j l in
-    let r = ready-global h s n id lane j l m in let q = ready-local h s n id lane j l m in
-    let slot : lane * 16 + j < length h.rows.items = (let a = m.within in let b = m.low in omega arith) in
-    let low : j < 16 = (let b = m.low in omega arith) in
-    let kept : Kept k o.global d = record {
-      stock = subst (λ (t : ScopeTrees). PoolHas k.pool (tree_root t.writes o.global.writes ∷ tree_root t.reads o.global.reads
-          ∷ tree_root k.local.writes d.writes ∷ tree_root k.local.reads d.reads ∷ []) (o.global.pending ++ d.pending)) (sym other)
-          (subst (λ ps. PoolHas k.pool (tree_root h.global.writes o.global.writes ∷ tree_root h.global.reads o.global.reads
-          ∷ tree_root k.local.writes d.writes ∷ tree_root k.local.reads d.reads ∷ []) (o.global.pending ++ ps)) (append-nil d.pending) g.has.stock);
-      fits_global = subst (λ (t : ScopeTrees). Fits t.writes o.global.writes × Fits t.reads o.global.reads) (sym other) old.fits_global;
-      fits_local = (g.has.fits_writes, g.has.fits_reads);
-      listed_global = subst (λ (t : ScopeTrees). IsReadList k.pool.seat.view t.pending (rows_of o.global.pending)) (sym other)
-          (list-stays h.pool.seat.view k.pool.seat.view h.global.pending (rows_of o.global.pending)
-          (λ z i. g.stay z (subst (λ ps. mem z (rows_of ps) ≡ true) (sym (append-nil o.global.pending)) i)) old.listed_global);
-      listed_local = g.has.listed;
-      sound_global = subst (λ (t : ScopeTrees). IsSound t k.rows.items o.global) (sym other) (subst (λ table. IsSound h.global table o.global) (sym rows)
-          (sound-else h.global h.rows.items (lane * 16 + j) row o.global old.sound_global r.elsewhere slot));
-      sound_local = subst (λ table. IsSound k.local table d) (sym rows)
-          (sound-added h.pool k.pool h.local k.local h.rows.items (lane * 16 + j) row x l.access c d (around-local h o.global) old.sound_local q.elsewhere
-          slot refl low m.writers.1 writer g);
-      set_aside = (let a = m.has.spare in let b = g.spent in omega arith);
-      few = (let a = m.fits in let b = g.many in let c = total-of h s n o in omega arith);
-    } in
-    let held : Holds k (with_held (own_latch id lane j l) s) n = record {
-      global = o.global;
-      local = d;
-      kept = kept;
-      global_reads = with-false (in_scope Global (at_normal l)) (reads l.access) (own_latch id lane j l) s.global_reads away ∙ o.global_reads;
-      global_writes = with-false (in_scope Global (at_normal l)) (writes l.access) (own_latch id lane j l) s.global_writes away ∙ o.global_writes;
-      local_reads = with-true (in_scope Local (at_normal l)) (reads l.access) (own_latch id lane j l) s.local_reads here
-          ∙ ap (with_if (reads l.access) (own_latch id lane j l)) o.local_reads
-          ∙ with-reads l.access x (in_order (held_of Read (read_items c))) ∙ sym g.order_reads;
-      local_writes = with-true (in_scope Local (at_normal l)) (writes l.access) (own_latch id lane j l) s.local_writes here
-          ∙ ap (with_if (writes l.access) (own_latch id lane j l)) o.local_writes
-          ∙ with-writes l.access x (in_order (held_of Write (items_in c.writes))) ∙ sym g.order_writes;
-      out = ap (λ (z : List (ℕ × ℕ)). length z) same.1.out ∙ o.out;
-    } in
-    record {
-      has = record { holds = held; spare = (let a = m.has.spare in let b = g.spent in omega arith) };
-      fits = (let a = m.fits in let b = g.many in let c = total-of h s n o in let e = total-of k (with_held (own_latch id lane j l) s) n held in omega arith);
-      low = (let a = m.low in omega arith);
-      within = (let a = m.within in let b = ap (λ (z : List ℕ). length z) rows ∙ length-set h.rows.items (lane * 16 + j) row in omega arith);
-      writers = (subst (λ (t : ScopeTrees). t.writer ≤ id) (sym other) m.writers.0, subst (λ w. w ≤ id) (sym writer) m.writers.1);
-      apart = (
-        each s.global_reads (in_scope Global (at_normal l) && has_access Read (at_normal l)) m.apart.0,
-        each s.global_writes (in_scope Global (at_normal l) && has_access Write (at_normal l)) m.apart.1,
-        each s.local_reads (in_scope Local (at_normal l) && has_access Read (at_normal l)) m.apart.2,
-        each s.local_writes (in_scope Local (at_normal l) && has_access Write (at_normal l)) m.apart.3,
-      );
-    }
-  where
-    each : (ys : List HeldLatch) (b : Bool) → EachOf (Beside id lane (suc j)) ys → EachOf (Beside id lane j) (with_if b (own_latch id lane j l) ys)
-    each ys b h = each-with-if (Beside id lane j) b (own_latch id lane j l) ys (beside-own id lane j l (let a = m.low in omega arith))
-        (each-map (Beside id lane (suc j)) (Beside id lane j) (beside-less id lane j) ys h)
-
 -- ---- which scope a latch is of
 global-if : (b : Bool) → scope_if b ≡ Global → b ≡ false
 global-if true e = cc
@@ -310,11 +188,109 @@ local-if : (b : Bool) → scope_if b ≡ Local → b ≡ true
 local-if true e = refl
 local-if false e = cc
 
-pub is-global : (l : Latch) → scope_of l.span ≡ Global → (in_scope Global (at_normal l) ≡ true) × (in_scope Local (at_normal l) ≡ false)
-is-global l e = let b = global-if (is_local l.span) e in (rw b refl, b)
+pub is-in : (scope : Scope) (l : Latch) → scope_of l.span ≡ scope → (in_scope scope (at_normal l) ≡ true) × (in_scope (other scope) (at_normal l) ≡ false)
+is-in Global l e = let b = global-if (is_local l.span) e in (rw b refl, b)
+is-in Local l e = let b = local-if (is_local l.span) e in (b, rw b refl)
 
-pub is-local : (l : Latch) → scope_of l.span ≡ Local → (in_scope Global (at_normal l) ≡ false) × (in_scope Local (at_normal l) ≡ true)
-is-local l e = let b = local-if (is_local l.span) e in (rw b refl, b)
+-- ---- its list has it then, and the others stay
+list-with : (scope : Scope) (access : Access) (x : HeldLatch) (s : Snapshot)
+    → list_of (with_held x s) scope access ≡ with_if (in_scope scope x.latch && has_access access x.latch) x (list_of s scope access)
+list-with Global Read x s = refl
+list-with Global Write x s = refl
+list-with Local Read x s = refl
+list-with Local Write x s = refl
+
+lists-with : (scope : Scope) (id lane j : ℕ) (l : Latch) (s : Snapshot) (c d : Content) → in_scope scope (at_normal l) ≡ true → ListsAre s scope c
+    → in_order (held_of Read (read_items d))
+    ≡ with_if (reads l.access) (held_as Read (item-with id lane j l)) (in_order (held_of Read (read_items c)))
+    → in_order (held_of Write (items_in d.writes))
+    ≡ with_if (writes l.access) (held_as Write (item-with id lane j l)) (in_order (held_of Write (items_in c.writes)))
+    → ListsAre (with_held (own_latch id lane j l) s) scope d
+lists-with scope id lane j l s c d here o r w =
+    let y = own_latch id lane j l in let x = item-with id lane j l in record {
+      reads = list-with scope Read y s ∙ with-true (in_scope scope (at_normal l)) (reads l.access) y (list_of s scope Read) here
+          ∙ ap (with_if (reads l.access) y) o.reads ∙ with-reads l.access x (in_order (held_of Read (read_items c))) ∙ sym r;
+      writes = list-with scope Write y s ∙ with-true (in_scope scope (at_normal l)) (writes l.access) y (list_of s scope Write) here
+          ∙ ap (with_if (writes l.access) y) o.writes ∙ with-writes l.access x (in_order (held_of Write (items_in c.writes))) ∙ sym w;
+    }
+
+lists-still : (scope : Scope) (id lane j : ℕ) (l : Latch) (s : Snapshot) (c : Content) → in_scope scope (at_normal l) ≡ false → ListsAre s scope c
+    → ListsAre (with_held (own_latch id lane j l) s) scope c
+lists-still scope id lane j l s c away o =
+    let y = own_latch id lane j l in record {
+      reads = list-with scope Read y s ∙ with-false (in_scope scope (at_normal l)) (reads l.access) y (list_of s scope Read) away ∙ o.reads;
+      writes = list-with scope Write y s ∙ with-false (in_scope scope (at_normal l)) (writes l.access) y (list_of s scope Write) away ∙ o.writes;
+    }
+
+-- ---- the last writers
+abbrev LowWriters : HeldLatches → ℕ → Type 0
+LowWriters h id = (writer_of h Global ≤ id) × (writer_of h Local ≤ id)
+
+low-writer : (scope : Scope) (h : HeldLatches) (id : ℕ) → LowWriters h id → (trees_of scope h).writer ≤ id
+low-writer Global h id low = low.0
+low-writer Local h id low = low.1
+
+low-writers : (scope : Scope) (h w : HeldLatches) (p : Pool) (t : ScopeTrees) (id : ℕ) → t.writer ≡ (trees_of scope h).writer → LowWriters h id
+    → LowWriters (with_scope scope h w p t) id
+low-writers Global h w p t id same low = (subst (λ k. k ≤ id) (sym same) low.0, low.1)
+low-writers Local h w p t id same low = (low.0, subst (λ k. k ≤ id) (sym same) low.1)
+
+-- ---- it came
+-- what the trees' own step says of every content
+abbrev Adds : Pool → Pool → ScopeTrees → ScopeTrees → ℕ → Item → Access → Type 0
+Adds old new s t row x access = (c : Content) (a : Around) → ScopeHas old s c a → EachOf (λ (y : Item). Apart y x) (items_in c.writes)
+    → EachOf (λ (y : Item). Apart y x) (read_items c) → AllApart (items_in c.writes) → AllApart (read_items c) → length c.writes < 8190
+    → (d : Content) × Added old new s t c d a row x access
+
+total-in : (scope : Scope) (h : HeldLatches) (s : Snapshot) (n : ℕ) (o : Holds h s n) (c e : Content) → content_of scope o ≡ c
+    → content_of (other scope) o ≡ e → many_of c + many_of e ≡ total s
+total-in scope h s n o c e now beside =
+    let a = ap many_of now in let b = ap many_of beside in let d = total-of h s n o in let q = sum-both many_of scope o.global o.local in omega arith
+
+pub came : (scope : Scope) (h w : HeldLatches) (p : Pool) (t : ScopeTrees) (s : Snapshot) (n more id lane j row : ℕ) (l : Latch)
+    → MayInsert h s n more id lane (suc j) → scope_of l.span ≡ scope → Adds h.pool p (trees_of scope h) t row (item-with id lane j l) l.access
+    → SamePool h.pool p → t.writer ≡ (trees_of scope h).writer → w.rows.items ≡ set h.rows.items (lane * 16 + j) row
+    → MayInsert (with_scope scope h w p t) (with_held (own_latch id lane j l) s) n more id lane j
+unfolding may-add
+came scope h w p t s n more id lane j row l m within step same writer rows =
+    let o = m.has.holds in let e = content_of (other scope) o in
+    let x = item-with id lane j l in let u = with_held (own_latch id lane j l) s in let in_it = is-in scope l within in
+    let slot : lane * 16 + j < length h.rows.items = (let q = m.within in let b = m.low in omega arith) in
+    let low : j < 16 = (let b = m.low in omega arith) in
+    let (c, a, has, apart_writes, apart_reads, writes_apart, reads_apart, few) = may-add scope h s n more id lane j l m in
+    let (d, g) = step c a has apart_writes apart_reads writes_apart reads_apart few in
+    let sum = sum-both aside_of scope o.global o.local in let count = sum-both many_of scope o.global o.local in let total = total-of h s n o in
+    let (z, now, beside) = changed scope h w p t s u n (13 * j + more) o d (record {
+      has = g.has;
+      stay = g.stay;
+      same = same;
+      sound = subst (λ table. IsSound t table d) (sym rows) (sound-added h.pool p (trees_of scope h) t h.rows.items (lane * 16 + j) row x l.access c d a
+          (scope-sound scope h o.global o.local o.kept) (ready scope h s n more id lane j l m).elsewhere slot refl low
+          (low-writer scope h id m.writers) writer g);
+      sound_other = subst (λ table. IsSound (trees_of (other scope) h) table e) (sym rows) (sound-else (trees_of (other scope) h) h.rows.items (lane * 16 + j)
+          row e (scope-sound (other scope) h o.global o.local o.kept) (ready (other scope) h s n more id lane j l m).elsewhere slot);
+      spare = (let q = m.has.spare in let b = g.spent in omega arith);
+      few = (let q = m.fits in let b = g.many in omega arith);
+      lists = lists-with scope id lane j l s c d in_it.0 (lists-are scope h s n o) g.order_reads g.order_writes;
+      lists_other = lists-still (other scope) id lane j l s e in_it.1 (lists-are (other scope) h s n o);
+    }) in
+    record {
+      has = z;
+      fits = (let q = m.fits in let b = g.many in let v = total-in scope (with_scope scope h w p t) u n z.holds d e now beside in omega arith);
+      low = (let q = m.low in omega arith);
+      within = (let q = m.within in let b = ap (λ (z : List ℕ). length z) rows ∙ length-set h.rows.items (lane * 16 + j) row in omega arith);
+      writers = low-writers scope h w p t id writer m.writers;
+      apart = (
+        each s.global_reads (in_scope Global (at_normal l) && has_access Read (at_normal l)) m.apart.0,
+        each s.global_writes (in_scope Global (at_normal l) && has_access Write (at_normal l)) m.apart.1,
+        each s.local_reads (in_scope Local (at_normal l) && has_access Read (at_normal l)) m.apart.2,
+        each s.local_writes (in_scope Local (at_normal l) && has_access Write (at_normal l)) m.apart.3,
+      );
+    }
+  where
+    each : (ys : List HeldLatch) (b : Bool) → EachOf (Beside id lane (suc j)) ys → EachOf (Beside id lane j) (with_if b (own_latch id lane j l) ys)
+    each ys b h = each-with-if (Beside id lane j) b (own_latch id lane j l) ys (beside-own id lane j l (let a = m.low in omega arith))
+        (each-map (Beside id lane (suc j)) (Beside id lane j) (beside-less id lane j) ys h)
 
 -- ---- one place after another, from the last to the first
 pub own-next : (id lane place : ℕ) (ls : List Latch) (l : Latch) → place < length ls → l ≡ slice_index_or ls place l
@@ -329,29 +305,32 @@ own-next id lane place ls l low is =
 pub came-from : ℕ → ℕ → ℕ → List Latch → Snapshot → Snapshot
 came-from id lane k ls s = inserted (own_from id lane k (drop k ls)) s
 
-pub came-none : (h : HeldLatches) (s : Snapshot) (n id lane left : ℕ) (ls : List Latch) → length ls ≡ left → MayInsert h s n id lane (length ls)
-    → MayInsert h (came-from id lane left ls s) n id lane left
+pub came-none : (h : HeldLatches) (s : Snapshot) (n more id lane left : ℕ) (ls : List Latch) → length ls ≡ left
+    → MayInsert h s n more id lane (length ls) → MayInsert h (came-from id lane left ls s) n more id lane left
 unfolding came-from
-came-none h s n id lane left ls is m =
-    subst (λ z. MayInsert h (inserted (own_from id lane z (drop z ls)) s) n id lane z) is
-    (subst (λ l. MayInsert h (inserted (own_from id lane (length ls) l) s) n id lane (length ls)) (sym (drop_all (length ls) ls (omega arith))) m)
+came-none h s n more id lane left ls is m =
+    subst (λ z. MayInsert h (inserted (own_from id lane z (drop z ls)) s) n more id lane z) is
+    (subst (λ l. MayInsert h (inserted (own_from id lane (length ls) l) s) n more id lane (length ls)) (sym (drop_all (length ls) ls (omega arith))) m)
 
-pub came-next : (h k : HeldLatches) (s : Snapshot) (n id lane left place : ℕ) (ls : List Latch) (l : Latch) → left ≡ suc place → place < length ls
-    → l ≡ slice_index_or ls place l → MayInsert h (came-from id lane left ls s) n id lane left
-    → ((t : Snapshot) (m : ℕ) → MayInsert h t m id lane (suc place) → MayInsert k (with_held (own_latch id lane place l) t) m id lane place)
-    → MayInsert k (came-from id lane place ls s) n id lane place
+pub came-next : (h k : HeldLatches) (s : Snapshot) (n more id lane left place : ℕ) (ls : List Latch) (l : Latch) → left ≡ suc place → place < length ls
+    → l ≡ slice_index_or ls place l → MayInsert h (came-from id lane left ls s) n more id lane left
+    → ((t : Snapshot) (m : ℕ) → MayInsert h t m more id lane (suc place) → MayInsert k (with_held (own_latch id lane place l) t) m more id lane place)
+    → MayInsert k (came-from id lane place ls s) n more id lane place
 unfolding came-from
-came-next h k s n id lane left place ls l is low at m step =
-    let before = subst (λ z. MayInsert h (inserted (own_from id lane z (drop z ls)) s) n id lane z) is m in
-    subst (λ xs. MayInsert k (inserted xs s) n id lane place) (sym (own-next id lane place ls l low at))
+came-next h k s n more id lane left place ls l is low at m step =
+    let before = subst (λ z. MayInsert h (inserted (own_from id lane z (drop z ls)) s) n more id lane z) is m in
+    subst (λ xs. MayInsert k (inserted xs s) n more id lane place) (sym (own-next id lane place ls l low at))
     (step (inserted (own_from id lane (suc place) (drop (suc place) ls)) s) n before)
 
-pub came-all : (k : HeldLatches) (s : Snapshot) (n id lane left : ℕ) (ls : List Latch) → left ≡ 0 → MayInsert k (came-from id lane left ls s) n id lane left
-    → Holds k (inserted (own_from id lane 0 ls) s) n
+pub came-all : (k : HeldLatches) (s : Snapshot) (n more id lane left : ℕ) (ls : List Latch) → left ≡ 0
+    → MayInsert k (came-from id lane left ls s) n more id lane left → HasSpare k (inserted (own_from id lane 0 ls) s) n more
 unfolding came-from
-came-all k s n id lane left ls is m = (subst (λ z. MayInsert k (inserted (own_from id lane z (drop z ls)) s) n id lane z) is m).has.holds
+came-all k s n more id lane left ls is m =
+    let o = (subst (λ z. MayInsert k (inserted (own_from id lane z (drop z ls)) s) n more id lane z) is m).has in
+    record { holds = o.holds; spare = (let a = o.spare in omega arith) }
 
-pub came-may : (h : HeldLatches) (s : Snapshot) (n id lane left place : ℕ) (ls : List Latch)
-    → left ≡ suc place → MayInsert h (came-from id lane left ls s) n id lane left
-    → (t : Snapshot) × (m : ℕ) × MayInsert h t m id lane (suc place)
-came-may h s n id lane left place ls is m = (came-from id lane left ls s, n, subst (λ z. MayInsert h (came-from id lane left ls s) n id lane z) is m)
+pub came-may : (h : HeldLatches) (s : Snapshot) (n more id lane left place : ℕ) (ls : List Latch)
+    → left ≡ suc place → MayInsert h (came-from id lane left ls s) n more id lane left
+    → (t : Snapshot) × (m rest : ℕ) × MayInsert h t m rest id lane (suc place)
+came-may h s n more id lane left place ls is m =
+    (came-from id lane left ls s, n, more, subst (λ z. MayInsert h (came-from id lane left ls s) n more id lane z) is m)

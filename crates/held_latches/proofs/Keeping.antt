@@ -1,7 +1,8 @@
--- One scope changes, and the other stays.
-use Rattle.std.proofs.Common.{◌≡◌, ⊎_elim, ℕ, suc, ◌+◌, ◌<◌, ◌≤◌, true, false, true≢false, Bool, cond, List, [], ◌∷◌, ◌++◌, length, ap, sym, ◌∙◌, subst, arith}
-use Rattle.std.proofs.lemmas.List.{append-nil}
-use Rattle.latch_model.specs.Histories.{HeldLatch, Snapshot, comes_first, in_order, with_latch}
+-- The held latches while pending reads go into a tree, and while rows come to the pool.
+use Rattle.std.proofs.Common.{◌≡◌, ⊎_elim, ℕ, suc, ◌<◌, ◌≤◌, true, false, true≢false, Bool, cond, List, [], ◌∷◌, ◌++◌, length, ap, sym, ◌∙◌, subst, arith}
+use Rattle.span_key.specs.declared.scopes.Scope.{Scope}
+use Rattle.span_key.specs.declared.scopes.Scope.TheVariants.{Global, Local}
+use Rattle.latch_model.specs.Histories.{HeldLatch, Snapshot, comes_first, in_order, list_of, with_latch}
 use Rattle.latch_model.specs.declared.latch.Access.{Access}
 use Rattle.latch_model.specs.declared.latch.Access.TheVariants.{Read, Write}
 use Rattle.row_pool.specs.Lists.{mem}
@@ -12,15 +13,16 @@ use Rattle.read_list.proofs.Links.{list-stays}
 use Rattle.latch_shots.specs.Held.{held_as}
 use Rattle.held_latches.specs.Content.{AllApart, Content, EachOf, IsIn, held_of, items_in, placed_items, read_items}
 use Rattle.held_latches.specs.Holding.{EachHeld, Filed, HasSpare, Holds, HoldsFlushed, IsSound, Kept}
-use Rattle.held_latches.specs.Scopes.{Around, Flushing, ScopeHas, aside_of, many_of}
+use Rattle.held_latches.specs.Scopes.{Around, Flushing, aside_of, many_of}
 use Rattle.held_latches.specs.Steps.{PoolHas, SamePool, Stay, free_rows}
 use Rattle.held_latches.specs.Stock.{Placed, rows_of, tree_root}
 use Rattle.held_latches.specs.declared.held.HeldLatches.{HeldLatches}
 use Rattle.held_latches.specs.declared.pool.Pool.{Pool}
 use Rattle.held_latches.specs.declared.scopes.ScopeTrees.{ScopeTrees}
 use Rattle.row_pool.proofs.Chains.{mem-left, mem-right}
-use Rattle.held_latches.proofs.Contents.{each-append}
+use Rattle.held_latches.proofs.Contents.{each-append, each-map}
 use Rattle.held_latches.proofs.Stocks.{rows-append}
+use Rattle.held_latches.proofs.Scoped.{around, changed, content_of, each-in, lists-are, of_scope, other, scope-sound, sum-both, trees_of, with_scope}
 
 -- ---- what holds of each held latch holds of each item
 each_with : (P : HeldLatch → Type 0) (x : HeldLatch) (ys : List HeldLatch) → EachOf P (with_latch x ys) → P x × EachOf P ys
@@ -47,72 +49,10 @@ pub each-placed : (P : Item → Type 0) (ps : List Placed) → EachOf P (placed_
 each-placed P [] h p m = absurd m
 each-placed P (q ∷ qs) h p m = ⊎_elim (λ z. subst (λ (k : Placed). P k.item) z h.0) (λ n. each-placed P qs h.1 p n) m
 
--- ---- each scope among both
-unfoldable pub around-global : HeldLatches → Content → Around
-around-global h l = record {
-  front = [];
-  back = tree_root h.local.writes l.writes ∷ tree_root h.local.reads l.reads ∷ [];
-  before = [];
-  after = l.pending;
-  few = omega arith;
-}
-
-unfoldable pub around-local : HeldLatches → Content → Around
-around-local h g = record {
-  front = tree_root h.global.writes g.writes ∷ tree_root h.global.reads g.reads ∷ [];
-  back = [];
-  before = g.pending;
-  after = [];
-  few = omega arith;
-}
-
-pub kept-global : (h : HeldLatches) (g l : Content) → Kept h g l → ScopeHas h.pool h.global g (around-global h l)
-unfolding around-global
-kept-global h g l k = record { stock = k.stock; fits_writes = k.fits_global.0; fits_reads = k.fits_global.1; listed = k.listed_global }
-
-pub kept-local : (h : HeldLatches) (g l : Content) → Kept h g l → ScopeHas h.pool h.local l (around-local h g)
-unfolding around-local
-kept-local h g l k = record {
-  stock = subst (λ ps. PoolHas h.pool (tree_root h.global.writes g.writes ∷ tree_root h.global.reads g.reads
-      ∷ tree_root h.local.writes l.writes ∷ tree_root h.local.reads l.reads ∷ []) (g.pending ++ ps)) (sym (append-nil l.pending)) k.stock;
-  fits_writes = k.fits_local.0;
-  fits_reads = k.fits_local.1;
-  listed = k.listed_local;
-}
-
-pub global-changed : (h : HeldLatches) (p : Pool) (t : ScopeTrees) (g l d : Content) → Kept h g l → ScopeHas p t d (around-global h l)
-    → Stay l.pending h.pool p → IsSound t h.rows.items d → aside_of d + aside_of l ≤ free_rows p → many_of d + many_of l ≤ 8190
-    → Kept (record h { pool = p; global = t }) d l
-unfolding around-global
-global-changed h p t g l d k o stay sound aside few = record {
-  stock = o.stock;
-  fits_global = (o.fits_writes, o.fits_reads);
-  fits_local = k.fits_local;
-  listed_global = o.listed;
-  listed_local = list-stays h.pool.seat.view p.seat.view h.local.pending (rows_of l.pending) stay k.listed_local;
-  sound_global = sound;
-  sound_local = k.sound_local;
-  set_aside = aside;
-  few = few;
-}
-
-pub local-changed : (h : HeldLatches) (p : Pool) (t : ScopeTrees) (g l d : Content) → Kept h g l → ScopeHas p t d (around-local h g)
-    → Stay (g.pending ++ []) h.pool p → IsSound t h.rows.items d → aside_of g + aside_of d ≤ free_rows p → many_of g + many_of d ≤ 8190
-    → Kept (record h { pool = p; local = t }) g d
-unfolding around-local
-local-changed h p t g l d k o stay sound aside few = record {
-  stock = subst (λ ps. PoolHas p (tree_root h.global.writes g.writes ∷ tree_root h.global.reads g.reads
-      ∷ tree_root t.writes d.writes ∷ tree_root t.reads d.reads ∷ []) (g.pending ++ ps)) (append-nil d.pending) o.stock;
-  fits_global = k.fits_global;
-  fits_local = (o.fits_writes, o.fits_reads);
-  listed_global = list-stays h.pool.seat.view p.seat.view h.global.pending (rows_of g.pending)
-      (λ q m. stay q (subst (λ l. mem q l ≡ true) (ap rows_of (sym (append-nil g.pending))) m)) k.listed_global;
-  listed_local = o.listed;
-  sound_global = k.sound_global;
-  sound_local = sound;
-  set_aside = aside;
-  few = few;
-}
+pub each-item : (P : HeldLatch → Type 0) (Q : Item → Type 0) (a : Access) (xs : List HeldLatch) (items : List Item) → ((y : Item) → P (held_as a y) → Q y)
+    → xs ≡ in_order (held_of a items) → EachOf P xs → EachOf Q items
+each-item P Q a xs items f is h =
+    each-map (λ y. P (held_as a y)) Q f items (each-held P a items (each-ordered P (held_of a items) (subst (EachOf P) is h)))
 
 -- ---- the pending reads are in the tree
 pub sound-flushed : (p q : Pool) (s t : ScopeTrees) (table : List ℕ) (c d : Content) (a : Around) (id : ℕ) → IsSound s table c → Flushing p q s t c d a
@@ -138,64 +78,52 @@ sound-flushed p q s t table c d a id o f none writer low = record {
     nothing : (x : Placed) → IsIn x d.pending → ⊥
     nothing x m = subst (IsIn x) none m
 
--- the held latches are the same while pending reads go into the tree
-pub flushed-global : (h : HeldLatches) (p : Pool) (t : ScopeTrees) (s : Snapshot) (n m id : ℕ) (b : Bool) (o : HoldsFlushed h s n m false b)
-    → EachHeld (λ x. x.by < id) s
-    → (d : Content) × Flushing h.pool p h.global t o.holds.global d (around-global h o.holds.local) × (d.pending ≡ []) → t.writer ≡ id → SamePool h.pool p
-    → HoldsFlushed (record h { pool = p; global = t }) s n m true b
-unfolding around-global
-flushed-global h p t s n m id b o low (d, f, none) writer same =
-    let k = o.holds.kept in let g = o.holds.global in let l = o.holds.local in
-    let lows = each-held (λ x. x.by < id) Read (read_items g)
-    (each-ordered (λ x. x.by < id) (held_of Read (read_items g)) (subst (EachOf (λ x. x.by < id)) o.holds.global_reads low.0)) in
-    let sound = sound-flushed h.pool p h.global t h.rows.items g d (around-global h l) id k.sound_global f none writer lows in
-    let long = ap (λ (ps : List Placed). length ps) none in let written = ap (λ (ts : List Row). length ts) f.writes.1 in
-    let kept = global-changed h p t g l d k f.has f.stay sound
-    (let x = k.set_aside in let y = f.spent in let z = f.many in omega arith) (let x = k.few in let z = f.many in omega arith) in
-    record {
-      holds = record {
-        global = d;
-        local = l;
-        kept = kept;
-        global_reads = o.holds.global_reads ∙ sym f.order;
-        global_writes = o.holds.global_writes ∙ ap (λ ts. in_order (held_of Write (items_in ts))) (sym f.writes.1);
-        local_reads = o.holds.local_reads;
-        local_writes = o.holds.local_writes;
-        out = ap (λ (l : List (ℕ × ℕ)). length l) same.1.out ∙ o.holds.out;
-      };
-      spare = (let x = o.spare in let y = f.spent in let z = f.many in omega arith);
-      no_global = λ e. none;
-      no_local = o.no_local;
-    }
+-- no read of a scope is pending any more, and of the other as many as before
+flushed-in : (scope : Scope) (h k : HeldLatches) (s : Snapshot) (n m : ℕ) (b : Bool)
+    (o : HoldsFlushed h s n m (of_scope scope false b) (of_scope scope b false)) (z : HasSpare k s n m) (d : Content) → content_of scope z.holds ≡ d
+    → d.pending ≡ [] → content_of (other scope) z.holds ≡ content_of (other scope) o.holds
+    → HoldsFlushed k s n m (of_scope scope true b) (of_scope scope b true)
+flushed-in Global h k s n m b o z d now none same = record {
+  holds = z.holds;
+  spare = z.spare;
+  no_global = λ e. ap (λ (c : Content). c.pending) now ∙ none;
+  no_local = λ e. ap (λ (c : Content). c.pending) same ∙ o.no_local e;
+}
+flushed-in Local h k s n m b o z d now none same = record {
+  holds = z.holds;
+  spare = z.spare;
+  no_global = λ e. ap (λ (c : Content). c.pending) same ∙ o.no_global e;
+  no_local = λ e. ap (λ (c : Content). c.pending) now ∙ none;
+}
 
-pub flushed-local : (h : HeldLatches) (p : Pool) (t : ScopeTrees) (s : Snapshot) (n m id : ℕ) (b : Bool) (o : HoldsFlushed h s n m b false)
-    → EachHeld (λ x. x.by < id) s
-    → (d : Content) × Flushing h.pool p h.local t o.holds.local d (around-local h o.holds.global) × (d.pending ≡ []) → t.writer ≡ id → SamePool h.pool p
-    → HoldsFlushed (record h { pool = p; local = t }) s n m b true
-unfolding around-local
-flushed-local h p t s n m id b o low (d, f, none) writer same =
-    let k = o.holds.kept in let g = o.holds.global in let l = o.holds.local in
-    let lows = each-held (λ x. x.by < id) Read (read_items l)
-    (each-ordered (λ x. x.by < id) (held_of Read (read_items l)) (subst (EachOf (λ x. x.by < id)) o.holds.local_reads low.2)) in
-    let sound = sound-flushed h.pool p h.local t h.rows.items l d (around-local h g) id k.sound_local f none writer lows in
+-- the held latches are the same while pending reads go into the tree
+pub flushed : (scope : Scope) (h : HeldLatches) (p : Pool) (t : ScopeTrees) (s : Snapshot) (n m id : ℕ) (b : Bool)
+    (o : HoldsFlushed h s n m (of_scope scope false b) (of_scope scope b false)) → EachHeld (λ x. x.by < id) s
+    → (d : Content) × Flushing h.pool p (trees_of scope h) t (content_of scope o.holds) d (around scope (trees_of (other scope) h)
+    (content_of (other scope) o.holds)) × (d.pending ≡ []) → t.writer ≡ id → SamePool h.pool p
+    → HoldsFlushed (with_scope scope h h p t) s n m (of_scope scope true b) (of_scope scope b true)
+flushed scope h p t s n m id b o low (d, f, none) writer same =
+    let k = o.holds.kept in let g = o.holds.global in let l = o.holds.local in let c = content_of scope o.holds in
+    let lists = lists-are scope h s n o.holds in
+    let lows = each-item (λ x. x.by < id) (λ x. x.id < id) Read (list_of s scope Read) (read_items c) (λ y e. e) lists.reads
+    (each-in (λ x. x.by < id) s scope Read low) in
     let long = ap (λ (ps : List Placed). length ps) none in let written = ap (λ (ts : List Row). length ts) f.writes.1 in
-    let kept = local-changed h p t g l d k f.has f.stay sound
-    (let x = k.set_aside in let y = f.spent in let z = f.many in omega arith) (let x = k.few in let z = f.many in omega arith) in
-    record {
-      holds = record {
-        global = g;
-        local = d;
-        kept = kept;
-        global_reads = o.holds.global_reads;
-        global_writes = o.holds.global_writes;
-        local_reads = o.holds.local_reads ∙ sym f.order;
-        local_writes = o.holds.local_writes ∙ ap (λ ts. in_order (held_of Write (items_in ts))) (sym f.writes.1);
-        out = ap (λ (l : List (ℕ × ℕ)). length l) same.1.out ∙ o.holds.out;
+    let (z, now, beside) = changed scope h h p t s s n m o.holds d (record {
+      has = f.has;
+      stay = f.stay;
+      same = same;
+      sound = sound-flushed h.pool p (trees_of scope h) t h.rows.items c d (around scope (trees_of (other scope) h) (content_of (other scope) o.holds)) id
+          (scope-sound scope h g l k) f none writer lows;
+      sound_other = scope-sound (other scope) h g l k;
+      spare = (let x = o.spare in let y = f.spent in let w = f.many in let q = sum-both aside_of scope g l in omega arith);
+      few = (let x = k.few in let w = f.many in let q = sum-both many_of scope g l in omega arith);
+      lists = record {
+        reads = lists.reads ∙ sym f.order;
+        writes = lists.writes ∙ ap (λ ts. in_order (held_of Write (items_in ts))) (sym f.writes.1);
       };
-      spare = (let x = o.spare in let y = f.spent in let z = f.many in omega arith);
-      no_global = o.no_global;
-      no_local = λ e. none;
-    }
+      lists_other = lists-are (other scope) h s n o.holds;
+    }) in
+    flushed-in scope h (with_scope scope h h p t) s n m b o z d now none beside
 
 pub not-flushed : (h : HeldLatches) (s : Snapshot) (n k : ℕ) → HasSpare h s n k → HoldsFlushed h s n k false false
 not-flushed h s n k o = record { holds = o.holds; spare = o.spare; no_global = λ e. absurd (true≢false (sym e)); no_local = λ e. absurd (true≢false (sym e)) }

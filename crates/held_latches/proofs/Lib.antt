@@ -4,6 +4,7 @@ pub mod Order
 pub mod Contents
 pub mod Flushes
 pub mod OneLatch
+pub mod Scoped
 pub mod Keeping
 pub mod OneRequest
 pub mod Capturing

@@ -15,7 +15,7 @@ use Rattle.held_latches.specs.Holding.{HasSpare, HoldsOwn, InScopes, MayInsert, 
 use Rattle.held_latches.specs.Lists.{capture, inserted, no_lists, others, own_from, taken_if, with_held, with_if, without_by}
 use Rattle.held_latches.specs.Taking.{IsOwn, OnlyOwn}
 use Rattle.held_latches.specs.declared.held.HeldLatches.{HeldLatches}
-use Rattle.held_latches.proofs.Inserting.{is-global, is-local}
+use Rattle.held_latches.proofs.Inserting.{is-in}
 
 -- ---- its begin
 taken-none : (b : Bool) → taken_if b [] ≡ []
@@ -48,7 +48,7 @@ writer-low true v w z e = omega arith
 writer-low false v w z e = omega arith
 
 pub may-come : (h : HeldLatches) (ls : List Latch) → HasSpare h no_lists 1 64 → slots_of h ≡ 16 → writer_of h Global ≤ 1 → writer_of h Local ≤ 1
-    → length ls ≡ 1 → MayInsert h no_lists 1 1 0 (length ls)
+    → length ls ≡ 1 → MayInsert h no_lists 1 51 1 0 (length ls)
 may-come h ls s slots g l one = record {
   has = record { holds = s.holds; spare = let a = s.spare in omega arith };
   fits = omega arith;
@@ -68,10 +68,10 @@ in-one false x e = absurd (true≢false (sym e))
 
 own-in : (l : Latch) (scope : Scope) (access : Access) → scope_of l.span ≡ scope → l.access ≡ access
     → IsIn (own_latch 1 0 0 l) (list_of (with_held (own_latch 1 0 0 l) no_lists) scope access)
-own-in l Global Read s a = in-one (in_scope Global (at_normal l) && reads l.access) (own_latch 1 0 0 l) (both _ _ (is-global l s).0 (ap reads a))
-own-in l Global Write s a = in-one (in_scope Global (at_normal l) && writes l.access) (own_latch 1 0 0 l) (both _ _ (is-global l s).0 (ap writes a))
-own-in l Local Read s a = in-one (in_scope Local (at_normal l) && reads l.access) (own_latch 1 0 0 l) (both _ _ (is-local l s).1 (ap reads a))
-own-in l Local Write s a = in-one (in_scope Local (at_normal l) && writes l.access) (own_latch 1 0 0 l) (both _ _ (is-local l s).1 (ap writes a))
+own-in l Global Read s a = in-one (in_scope Global (at_normal l) && reads l.access) (own_latch 1 0 0 l) (both _ _ (is-in Global l s).0 (ap reads a))
+own-in l Global Write s a = in-one (in_scope Global (at_normal l) && writes l.access) (own_latch 1 0 0 l) (both _ _ (is-in Global l s).0 (ap writes a))
+own-in l Local Read s a = in-one (in_scope Local (at_normal l) && reads l.access) (own_latch 1 0 0 l) (both _ _ (is-in Local l s).0 (ap reads a))
+own-in l Local Write s a = in-one (in_scope Local (at_normal l) && writes l.access) (own_latch 1 0 0 l) (both _ _ (is-in Local l s).0 (ap writes a))
 
 own-at : (x : Latch) (k : ℕ) (l : Latch) → slice_get (x ∷ []) k ≡ Some l
     → IsIn (own_latch 1 0 k l) (list_of (inserted (own_from 1 0 0 (x ∷ [])) no_lists) (scope_of l.span) l.access)

@@ -1,6 +1,6 @@
 -- The latches of a request that ends go out of the lists, one place after the other.
 use Rattle.std.proofs.Common.{◌≡◌, ⊎_elim, inl, inr, ℕ, suc, ◌+◌, ◌<◌, ◌≤◌, true, false, true≢false, not, ◌&&◌, ◌==◌, nat_lt, Bool, cond, List, [], ◌∷◌}
-use Rattle.std.proofs.Common.{length, slice_get, Some, ap, sym, refl, ◌∙◌, subst, arith}
+use Rattle.std.proofs.Common.{◌*◌, length, slice_get, slice_index, Some, ap, sym, refl, ◌∙◌, subst, arith}
 use Rattle.std.specs.List.{filter}
 use Rattle.std.proofs.lemmas.Bool.Decides.{nat_tests}
 use Rattle.std.proofs.lemmas.Option.{slice_get_within}
@@ -8,128 +8,97 @@ use Rattle.span_key.specs.Scopes.{scope_of}
 use Rattle.span_key.specs.declared.scopes.Scope.{Scope}
 use Rattle.span_key.specs.declared.scopes.Scope.TheVariants.{Global, Local}
 use Rattle.latch_model.specs.Histories.{HeldLatch, Snapshot, in_order, list_of}
+use Rattle.latch_model.specs.Latches.{reads, writes}
 use Rattle.latch_model.specs.declared.latch.Access.{Access}
 use Rattle.latch_model.specs.declared.latch.Access.TheVariants.{Read, Write}
 use Rattle.latch_model.specs.declared.latch.Latch.{Latch}
 use Rattle.latch_item.specs.Items.{Item}
-use Rattle.held_latches.specs.Content.{Content, EachOf, IsIn, held_of, is_other, items_in, read_items}
-use Rattle.held_latches.specs.Holding.{HasSpare, Holds, HoldsOwn, Kept, later_or_other, own_latch, without_below}
+use Rattle.held_latches.specs.Content.{AllApart, Content, EachOf, IsIn, held_of, is_other, items_in, read_items}
+use Rattle.held_latches.specs.Holding.{HasSpare, Holds, HoldsOwn, later_or_other, own_latch, without_below}
 use Rattle.held_latches.specs.Lists.{others, without_by}
-use Rattle.held_latches.specs.Scopes.{aside_of}
+use Rattle.held_latches.specs.Scopes.{Around, ScopeHas, aside_of, many_of}
 use Rattle.held_latches.specs.Steps.{SamePool, free_rows}
-use Rattle.held_latches.specs.Taking.{IsOwn, OnlyOwn, Taken, without_place}
+use Rattle.held_latches.specs.Taking.{IsOwn, OnlyOwn, StandsIn, Taken, without_if, without_place}
 use Rattle.held_latches.specs.declared.held.HeldLatches.{HeldLatches}
 use Rattle.held_latches.specs.declared.pool.Pool.{Pool}
 use Rattle.held_latches.specs.declared.scopes.ScopeTrees.{ScopeTrees}
 use Rattle.held_latches.proofs.Contents.{each-map}
-use Rattle.held_latches.proofs.Keeping.{around-global, around-local, global-changed, local-changed}
 use Rattle.held_latches.proofs.Taken.{Found, found-read, found-write, sound-taken}
+use Rattle.held_latches.proofs.Scoped.{ListsAre, around, changed, content_of, lists-are, other, scope-has, scope-sound, sum-both, trees_of, with_scope}
 
 -- ---- where the latch of one place stands
-pub found-global : (h : HeldLatches) (s : Snapshot) (n : ℕ) (o : Holds h s n) (access : Access) (y : HeldLatch) → IsIn y (list_of s Global access)
-    → Found h.global h.rows.items o.global access y
-found-global h s n o Read y m =
-    found-read h.global h.rows.items o.global y o.kept.fits_global.1 o.kept.sound_global (subst (IsIn y) o.global_reads m)
-found-global h s n o Write y m =
-    found-write h.global h.rows.items o.global y o.kept.fits_global.0 o.kept.sound_global (subst (IsIn y) o.global_writes m)
+pub found : (scope : Scope) (access : Access) (h : HeldLatches) (s : Snapshot) (n : ℕ) (o : Holds h s n) (y : HeldLatch) → IsIn y (list_of s scope access)
+    → Found (trees_of scope h) h.rows.items (content_of scope o) access y
+found scope Read h s n o y m =
+    found-read (trees_of scope h) h.rows.items (content_of scope o) y (scope-has scope h o.global o.local o.kept).fits_reads
+    (scope-sound scope h o.global o.local o.kept) (subst (IsIn y) (lists-are scope h s n o).reads m)
+found scope Write h s n o y m =
+    found-write (trees_of scope h) h.rows.items (content_of scope o) y (scope-has scope h o.global o.local o.kept).fits_writes
+    (scope-sound scope h o.global o.local o.kept) (subst (IsIn y) (lists-are scope h s n o).writes m)
 
-pub found-local : (h : HeldLatches) (s : Snapshot) (n : ℕ) (o : Holds h s n) (access : Access) (y : HeldLatch) → IsIn y (list_of s Local access)
-    → Found h.local h.rows.items o.local access y
-found-local h s n o Read y m = found-read h.local h.rows.items o.local y o.kept.fits_local.1 o.kept.sound_local (subst (IsIn y) o.local_reads m)
-found-local h s n o Write y m = found-write h.local h.rows.items o.local y o.kept.fits_local.0 o.kept.sound_local (subst (IsIn y) o.local_writes m)
+-- its rows can be taken out
+pub may-take : (scope : Scope) (access : Access) (h : HeldLatches) (s : Snapshot) (n row : ℕ) (o : Holds h s n) (y : HeldLatch)
+    → IsIn y (list_of s scope access) → row ≡ slice_index h.rows.items (y.lane * 16 + y.place)
+    → (c : Content) × (a : Around) × (x : Item) × ScopeHas h.pool (trees_of scope h) c a × StandsIn (trees_of scope h) c access row x × (x.id ≡ y.by)
+may-take scope access h s n row o y m there = let f = found scope access h s n o y m in (
+  content_of scope o,
+  around scope (trees_of (other scope) h) (content_of (other scope) o),
+  f.item,
+  scope-has scope h o.global o.local o.kept,
+  subst (λ r. StandsIn (trees_of scope h) (content_of scope o) access r f.item) (sym there) f.stands,
+  f.request,
+)
+
+pub some-aside : (scope : Scope) (access : Access) (h : HeldLatches) (s : Snapshot) (n : ℕ) (o : Holds h s n) (y : HeldLatch)
+    → IsIn y (list_of s scope access) → 5 ≤ free_rows h.pool
+some-aside scope access h s n o y m =
+    let a = (found scope access h s n o y m).some_aside in let b = o.kept.set_aside in let c = sum-both aside_of scope o.global o.local in omega arith
 
 -- ---- it went
-pub removed-global : (h : HeldLatches) (p : Pool) (t : ScopeTrees) (s : Snapshot) (n m id place : ℕ) (o : Holds h s n) (d : Content) (x : Item)
-    (access : Access) → Taken h.pool p h.global t o.global d (around-global h o.local) x access → t.writer ≡ h.global.writer → SamePool h.pool p → x.id ≡ id
-    → x.place ≡ place → aside_of o.global + aside_of o.local + m ≤ free_rows h.pool
-    → HasSpare (record h { pool = p; global = t }) (without_place id place Global access s) n m
-unfolding around-global
-removed-global h p t s n m id place o d x access g writer same request at free = by access g
-  where
-    kept : (a : Access) → Taken h.pool p h.global t o.global d (around-global h o.local) x a → Kept (record h { pool = p; global = t }) d o.local
-    kept a k = global-changed h p t o.global o.local d o.kept k.has k.stay
-        (sound-taken h.pool p h.global t h.rows.items o.global d (around-global h o.local) x a o.kept.sound_global k writer)
-        (let b = o.kept.set_aside in let e = k.spent in omega arith) (let b = o.kept.few in let e = k.many in omega arith)
+lists-without : (scope : Scope) (access : Access) (id place : ℕ) (s : Snapshot) (c d : Content) → ListsAre s scope c
+    → in_order (held_of Read (read_items d)) ≡ without_if (reads access) id place (in_order (held_of Read (read_items c)))
+    → in_order (held_of Write (items_in d.writes)) ≡ without_if (writes access) id place (in_order (held_of Write (items_in c.writes)))
+    → ListsAre (without_place id place scope access s) scope d
+lists-without Global Read id place s c d o r w = record { reads = ap (filter (is_other id place)) o.reads ∙ sym r; writes = o.writes ∙ sym w }
+lists-without Global Write id place s c d o r w = record { reads = o.reads ∙ sym r; writes = ap (filter (is_other id place)) o.writes ∙ sym w }
+lists-without Local Read id place s c d o r w = record { reads = ap (filter (is_other id place)) o.reads ∙ sym r; writes = o.writes ∙ sym w }
+lists-without Local Write id place s c d o r w = record { reads = o.reads ∙ sym r; writes = ap (filter (is_other id place)) o.writes ∙ sym w }
 
-    renamed : (xs ys : List HeldLatch) → ys ≡ filter (is_other x.id x.place) xs → ys ≡ filter (is_other id place) xs
-    renamed xs ys e = e ∙ ap (λ i. filter (is_other i x.place) xs) request ∙ ap (λ j. filter (is_other id j) xs) at
+lists-else : (scope : Scope) (access : Access) (id place : ℕ) (s : Snapshot) (c : Content) → ListsAre s (other scope) c
+    → ListsAre (without_place id place scope access s) (other scope) c
+lists-else Global Read id place s c o = record { reads = o.reads; writes = o.writes }
+lists-else Global Write id place s c o = record { reads = o.reads; writes = o.writes }
+lists-else Local Read id place s c o = record { reads = o.reads; writes = o.writes }
+lists-else Local Write id place s c o = record { reads = o.reads; writes = o.writes }
 
-    by : (a : Access) → Taken h.pool p h.global t o.global d (around-global h o.local) x a
-        → HasSpare (record h { pool = p; global = t }) (without_place id place Global a s) n m
-    by Read k = record {
-      holds = record {
-        global = d;
-        local = o.local;
-        kept = kept Read k;
-        global_reads = ap (filter (is_other id place)) o.global_reads
-            ∙ sym (renamed (in_order (held_of Read (read_items o.global))) (in_order (held_of Read (read_items d))) k.order_reads);
-        global_writes = o.global_writes ∙ sym k.order_writes;
-        local_reads = o.local_reads;
-        local_writes = o.local_writes;
-        out = ap (λ (z : List (ℕ × ℕ)). length z) same.1.out ∙ o.out;
-      };
-      spare = (let e = k.spent in omega arith);
-    }
-    by Write k = record {
-      holds = record {
-        global = d;
-        local = o.local;
-        kept = kept Write k;
-        global_reads = o.global_reads ∙ sym k.order_reads;
-        global_writes = ap (filter (is_other id place)) o.global_writes
-            ∙ sym (renamed (in_order (held_of Write (items_in o.global.writes))) (in_order (held_of Write (items_in d.writes))) k.order_writes);
-        local_reads = o.local_reads;
-        local_writes = o.local_writes;
-        out = ap (λ (z : List (ℕ × ℕ)). length z) same.1.out ∙ o.out;
-      };
-      spare = (let e = k.spent in omega arith);
-    }
+-- what the trees' own step says of every content and item
+abbrev TakesOut : Pool → Pool → ScopeTrees → ScopeTrees → ℕ → ℕ → Access → Type 0
+TakesOut old new s t row id access = (c : Content) (a : Around) (x : Item) → ScopeHas old s c a → StandsIn s c access row x → x.id ≡ id
+    → AllApart (items_in c.writes) → AllApart (read_items c) → (d : Content) × Taken old new s t c d a x access
 
-pub removed-local : (h : HeldLatches) (p : Pool) (t : ScopeTrees) (s : Snapshot) (n m id place : ℕ) (o : Holds h s n) (d : Content) (x : Item)
-    (access : Access) → Taken h.pool p h.local t o.local d (around-local h o.global) x access → t.writer ≡ h.local.writer → SamePool h.pool p → x.id ≡ id
-    → x.place ≡ place → aside_of o.global + aside_of o.local + m ≤ free_rows h.pool
-    → HasSpare (record h { pool = p; local = t }) (without_place id place Local access s) n m
-unfolding around-local
-removed-local h p t s n m id place o d x access g writer same request at free = by access g
-  where
-    kept : (a : Access) → Taken h.pool p h.local t o.local d (around-local h o.global) x a → Kept (record h { pool = p; local = t }) o.global d
-    kept a k = local-changed h p t o.global o.local d o.kept k.has k.stay
-        (sound-taken h.pool p h.local t h.rows.items o.local d (around-local h o.global) x a o.kept.sound_local k writer)
-        (let b = o.kept.set_aside in let e = k.spent in omega arith) (let b = o.kept.few in let e = k.many in omega arith)
-
-    renamed : (xs ys : List HeldLatch) → ys ≡ filter (is_other x.id x.place) xs → ys ≡ filter (is_other id place) xs
-    renamed xs ys e = e ∙ ap (λ i. filter (is_other i x.place) xs) request ∙ ap (λ j. filter (is_other id j) xs) at
-
-    by : (a : Access) → Taken h.pool p h.local t o.local d (around-local h o.global) x a
-        → HasSpare (record h { pool = p; local = t }) (without_place id place Local a s) n m
-    by Read k = record {
-      holds = record {
-        global = o.global;
-        local = d;
-        kept = kept Read k;
-        global_reads = o.global_reads;
-        global_writes = o.global_writes;
-        local_reads = ap (filter (is_other id place)) o.local_reads
-            ∙ sym (renamed (in_order (held_of Read (read_items o.local))) (in_order (held_of Read (read_items d))) k.order_reads);
-        local_writes = o.local_writes ∙ sym k.order_writes;
-        out = ap (λ (z : List (ℕ × ℕ)). length z) same.1.out ∙ o.out;
-      };
-      spare = (let e = k.spent in omega arith);
-    }
-    by Write k = record {
-      holds = record {
-        global = o.global;
-        local = d;
-        kept = kept Write k;
-        global_reads = o.global_reads;
-        global_writes = o.global_writes;
-        local_reads = o.local_reads ∙ sym k.order_reads;
-        local_writes = ap (filter (is_other id place)) o.local_writes
-            ∙ sym (renamed (in_order (held_of Write (items_in o.local.writes))) (in_order (held_of Write (items_in d.writes))) k.order_writes);
-        out = ap (λ (z : List (ℕ × ℕ)). length z) same.1.out ∙ o.out;
-      };
-      spare = (let e = k.spent in omega arith);
-    }
+pub removed : (scope : Scope) (access : Access) (h : HeldLatches) (p : Pool) (t : ScopeTrees) (s : Snapshot) (n m row : ℕ) (o : Holds h s n) (y : HeldLatch)
+    → IsIn y (list_of s scope access) → row ≡ slice_index h.rows.items (y.lane * 16 + y.place) → TakesOut h.pool p (trees_of scope h) t row y.by access
+    → t.writer ≡ (trees_of scope h).writer → SamePool h.pool p → aside_of o.global + aside_of o.local + m ≤ free_rows h.pool
+    → HasSpare (with_scope scope h h p t) (without_place y.by y.place scope access s) n m
+unfolding may-take
+removed scope access h p t s n m row o y there at step writer same spare =
+    let f = found scope access h s n o y there in let c = content_of scope o in let e = content_of (other scope) o in
+    let x = f.item in let sound = scope-sound scope h o.global o.local o.kept in
+    let (_, a, _, has, stands, request) = may-take scope access h s n row o y there at in
+    let (d, k) = step c a x has stands request sound.writes_apart sound.reads_apart in
+    let gone = (changed scope h h p t s (without_place x.id x.place scope access s) n m o d (record {
+      has = k.has;
+      stay = k.stay;
+      same = same;
+      sound = sound-taken h.pool p (trees_of scope h) t h.rows.items c d a x access sound k writer;
+      sound_other = scope-sound (other scope) h o.global o.local o.kept;
+      spare = (let b = sum-both aside_of scope o.global o.local in let z = k.spent in omega arith);
+      few = (let b = sum-both many_of scope o.global o.local in let q = o.kept.few in let z = k.many in omega arith);
+      lists = lists-without scope access x.id x.place s c d (lists-are scope h s n o) k.order_reads k.order_writes;
+      lists_other = lists-else scope access x.id x.place s e (lists-are (other scope) h s n o);
+    })).0 in
+    subst (λ i. HasSpare (with_scope scope h h p t) (without_place i y.place scope access s) n m) f.request
+    (subst (λ j. HasSpare (with_scope scope h h p t) (without_place x.id j scope access s) n m) f.at gone)
 
 -- ---- lists
 same-filter : (p q : HeldLatch → Bool) (xs : List HeldLatch) → EachOf (λ y. p y ≡ q y) xs → filter p xs ≡ filter q xs

@@ -121,10 +121,10 @@ pub record Beside (id lane j : ℕ) (y : HeldLatch) : Type 0 where
   pub other_lane : y.lane ≡ lane → j ≤ y.place
   pub low : y.place < 16
 
--- The latches of a request, of places below j, can come: there is room for them, the request is the last that began, and nobody holds these places or has the
--- lane but for its own later places.
-pub record MayInsert (h : HeldLatches) (s : Snapshot) (n id lane j : ℕ) : Type 0 where
-  pub has : HasSpare h s n (13 * j)
+-- The latches of a request, of places below j, can come: there is room for them, and for so many rows more. The request is the last that began, and nobody
+-- holds these places or has the lane but for its own later places.
+pub record MayInsert (h : HeldLatches) (s : Snapshot) (n more id lane j : ℕ) : Type 0 where
+  pub has : HasSpare h s n (13 * j + more)
   pub fits : total s + j ≤ 8190
   pub low : j ≤ 16
   pub within : lane * 16 + 16 ≤ slots_of h

@@ -59,6 +59,7 @@ impl HeldLatches {
         requires { (s : Snapshot) × (n : ℕ) × Holds self.now s n }
         ensures free { result ≡ free_of self.now }
         ensures spare { (s : Snapshot) (n : ℕ) → Holds self.now s n → HasSpare self.now s n result }
+        ensures most { (s : Snapshot) (n k : ℕ) → HasSpare self.now s n k → k ≤ result }
         ensures all { Holds self.now no_lists 0 → result ≡ size_of self.now }
     {
         self.pool.seat.known();
@@ -72,7 +73,7 @@ impl HeldLatches {
         requires holds { (s : Snapshot) × (n : ℕ) × Holds self.old s n }
         ensures table { SameSizes self.old self.new }
         ensures writers { SameWriters self.old self.new }
-        ensures holds { (s : Snapshot) (n : ℕ) → Holds self.old s n → (m : ℕ) × (n ≡ suc m) × Holds self.new s m }
+        ensures holds { (s : Snapshot) (n k : ℕ) → HasSpare self.old s n k → (m : ℕ) × (n ≡ suc m) × HasSpare self.new s m k }
     {
         let Returned { seat, rows: chain } = returned;
         self.pool.take_back(rows, seat, chain);

@@ -8,7 +8,7 @@ ghost use Rattle.latch_item.specs.Items.{Item};
 ghost use Rattle.held_latches.specs.Content.{AllApart, Apart, Content, EachOf, items_in, read_items};
 ghost use Rattle.held_latches.specs.Scopes.{Added, Around, ScopeHas};
 ghost use Rattle.held_latches.specs.Steps.{SamePool, free_rows};
-ghost use Rattle.held_latches.specs.Holding.{Holds, MayInsert, SameSizes, SameWriters, own_latch, table_of};
+ghost use Rattle.held_latches.specs.Holding.{HasSpare, MayInsert, SameSizes, SameWriters, own_latch, table_of};
 ghost use Rattle.held_latches.specs.Lists.{inserted, own_from, with_held};
 
 use crate::held::{HeldLatches, slot_of};
@@ -52,12 +52,12 @@ impl HeldLatches {
     // The latch of one place, which is global.
     fn insert_global(&mut self, rows: &Rows, id: u64, lane: u32, place: u32, latch: &Latch)
         requires table { table_of self.old ≡ rows.now }
-        requires may { (s : Snapshot) × (n : ℕ) × MayInsert self.old s n id lane (suc place) }
+        requires may { (s : Snapshot) × (n more : ℕ) × MayInsert self.old s n more id lane (suc place) }
         requires scope { scope_of latch.now.span ≡ Global }
         ensures table { SameSizes self.old self.new }
         ensures writers { SameWriters self.old self.new }
-        ensures held { (s : Snapshot) (n : ℕ) → MayInsert self.old s n id lane (suc place)
-            → MayInsert self.new (with_held (own_latch id lane place latch.now) s) n id lane place }
+        ensures held { (s : Snapshot) (n more : ℕ) → MayInsert self.old s n more id lane (suc place)
+            → MayInsert self.new (with_held (own_latch id lane place latch.now) s) n more id lane place }
     {
         let row = self
             .global
@@ -68,12 +68,12 @@ impl HeldLatches {
     // The latch of one place, which is local.
     fn insert_local(&mut self, rows: &Rows, id: u64, lane: u32, place: u32, latch: &Latch)
         requires table { table_of self.old ≡ rows.now }
-        requires may { (s : Snapshot) × (n : ℕ) × MayInsert self.old s n id lane (suc place) }
+        requires may { (s : Snapshot) × (n more : ℕ) × MayInsert self.old s n more id lane (suc place) }
         requires scope { scope_of latch.now.span ≡ Local }
         ensures table { SameSizes self.old self.new }
         ensures writers { SameWriters self.old self.new }
-        ensures held { (s : Snapshot) (n : ℕ) → MayInsert self.old s n id lane (suc place)
-            → MayInsert self.new (with_held (own_latch id lane place latch.now) s) n id lane place }
+        ensures held { (s : Snapshot) (n more : ℕ) → MayInsert self.old s n more id lane (suc place)
+            → MayInsert self.new (with_held (own_latch id lane place latch.now) s) n more id lane place }
     {
         let row = self.local.add(&mut self.pool, rows, id, place, lane, latch);
         self.rows[slot_of(lane, place)] = row;
@@ -82,11 +82,11 @@ impl HeldLatches {
     // The latch of one place.
     fn insert_one(&mut self, rows: &Rows, id: u64, lane: u32, place: u32, latch: &Latch)
         requires table { table_of self.old ≡ rows.now }
-        requires may { (s : Snapshot) × (n : ℕ) × MayInsert self.old s n id lane (suc place) }
+        requires may { (s : Snapshot) × (n more : ℕ) × MayInsert self.old s n more id lane (suc place) }
         ensures table { SameSizes self.old self.new }
         ensures writers { SameWriters self.old self.new }
-        ensures held { (s : Snapshot) (n : ℕ) → MayInsert self.old s n id lane (suc place)
-            → MayInsert self.new (with_held (own_latch id lane place latch.now) s) n id lane place }
+        ensures held { (s : Snapshot) (n more : ℕ) → MayInsert self.old s n more id lane (suc place)
+            → MayInsert self.new (with_held (own_latch id lane place latch.now) s) n more id lane place }
     {
         match latch.span.scope() {
             Scope::Global => self.insert_global(rows, id, lane, place, latch),
@@ -94,14 +94,14 @@ impl HeldLatches {
         }
     }
 
-    /// The latches of a request are held from now on, under the request's number and in its lane. 13 rows a latch are free for them.
+    /// The latches of a request are held from now on, under the request's number and in its lane. 13 rows a latch are free for them, and no others are used.
     pub fn insert(&mut self, rows: &Rows, id: u64, lane: u32, latches: &[Latch])
         requires table { table_of self.old ≡ rows.now }
-        requires may { (s : Snapshot) × (n : ℕ) × MayInsert self.old s n id lane (length latches.now) }
+        requires may { (s : Snapshot) × (n more : ℕ) × MayInsert self.old s n more id lane (length latches.now) }
         ensures table { SameSizes self.old self.new }
         ensures writers { SameWriters self.old self.new }
-        ensures held { (s : Snapshot) (n : ℕ) → MayInsert self.old s n id lane (length latches.now)
-            → Holds self.new (inserted (own_from id lane 0 latches.now) s) n }
+        ensures held { (s : Snapshot) (n more : ℕ) → MayInsert self.old s n more id lane (length latches.now)
+            → HasSpare self.new (inserted (own_from id lane 0 latches.now) s) n more }
     {
         for passed in 0..latches.len() {
             let place = latches.len() - 1 - passed;

@@ -1,9 +1,9 @@
 // A request from its begin to its end, by all public calls.
-ghost use Rattle.std.specs.Prelude.{◌≡◌, ℕ, List, length, IfOk};
+ghost use Rattle.std.specs.Prelude.{◌≡◌, ◌≤◌, ℕ, List, length, IfOk};
 ghost use Rattle.span_key.specs.declared.scopes.Scope.TheVariants as scopes;
 ghost use Rattle.latch_model.specs.Histories.{Snapshot};
 ghost use Rattle.latch_shots.specs.Shots.{AreShots, table_of as shots_table};
-ghost use Rattle.held_latches.specs.Holding.{HasSpare, Holds, SameSizes, slots_of, size_of, table_of, writer_of};
+ghost use Rattle.held_latches.specs.Holding.{HasSpare, SameSizes, slots_of, size_of, table_of, writer_of};
 ghost use Rattle.held_latches.specs.Lists.{inserted, no_lists, own_from};
 
 use crate::{Counted, HeldLatches};
@@ -28,7 +28,7 @@ struct Seen {
     free_after: u32,
 }
 
-/// The request number 1 begins, in lane 0, where nothing is held.
+/// The request number 1 begins, in lane 0, where nothing is held. 13 rows of 64 are for its latch, and 51 are still spare.
 fn begin(held: &mut HeldLatches, rows: &Rows, latches: &[Latch]) -> Shots
     requires table { table_of held.old ≡ rows.now }
     requires fresh { HasSpare held.old no_lists 0 64 }
@@ -37,7 +37,7 @@ fn begin(held: &mut HeldLatches, rows: &Rows, latches: &[Latch]) -> Shots
     requires one { length latches.now ≡ 1 }
     ensures table { SameSizes held.old held.new }
     ensures shots { (shots_table result ≡ rows.now) × AreShots result no_lists }
-    ensures held { Holds held.new (inserted (own_from 1 0 0 latches.now) no_lists) 1 }
+    ensures held { HasSpare held.new (inserted (own_from 1 0 0 latches.now) no_lists) 1 51 }
 {
     let shots = held.capture(rows, 1, latches);
     held.insert(rows, 1, 0, latches);
@@ -48,18 +48,19 @@ fn begin(held: &mut HeldLatches, rows: &Rows, latches: &[Latch]) -> Shots
 fn end(held: &mut HeldLatches, rows: &Rows, shots: Shots, latches: &[Latch])
     requires table { table_of held.old ≡ rows.now }
     requires shots { (shots_table shots ≡ rows.now) × AreShots shots no_lists }
-    requires held { Holds held.old (inserted (own_from 1 0 0 latches.now) no_lists) 1 }
+    requires held { HasSpare held.old (inserted (own_from 1 0 0 latches.now) no_lists) 1 51 }
     requires one { length latches.now ≡ 1 }
     ensures table { SameSizes held.old held.new }
-    ensures held { Holds held.new no_lists 0 }
+    ensures held { HasSpare held.new no_lists 0 51 }
 {
     held.take_back(rows, shots.close(rows));
     held.remove(rows, 1, 0, latches);
 }
 
-/// A request with one latch, in a pool of 64 rows.
+/// A request with one latch, in a pool of 64 rows, of which 51 are spare while it is held.
 fn one_latch(alloc: Global, latch: &[Latch], scope: Scope, other: Scope) -> Result<Seen, Memory>
     requires { length latch.now ≡ 1 }
+    ensures { IfOk result (λ seen. 51 ≤ seen.free) }
 {
     let (rows, mut held) = HeldLatches::new(alloc, 64, 1)?;
     let free_before = held.free();

@@ -16,6 +16,7 @@ insert-requires-clause-may c =
     let few : 0 < 65536 = (omega arith) in (
       no_lists,
       1,
+      51,
       may-come c.capture-shots.new.self ls (first.holds no_lists 0 64 c.requires.fresh (tt, tt, tt, tt) few) (first.table.1 ∙ c.requires.sizes)
           (writer-low (captures ls Global Read) (writer_of old Global) _ c.requires.writers.0 first.writers.0)
           (writer-low (captures ls Local Read) (writer_of old Local) _ c.requires.writers.1 first.writers.1) c.requires.one,
@@ -35,7 +36,7 @@ returns-clause-held c =
     let ls = c.args.latches.now in
     let first = c.capture-shots.ensures in
     let few : 0 < 65536 = (omega arith) in
-    c.insert.ensures.held no_lists 1
+    c.insert.ensures.held no_lists 1 51
     (may-come c.capture-shots.new.self ls (first.holds no_lists 0 64 c.requires.fresh (tt, tt, tt, tt) few) (first.table.1 ∙ c.requires.sizes)
     (writer-low (captures ls Global Read) (writer_of old Global) _ c.requires.writers.0 first.writers.0)
     (writer-low (captures ls Local Read) (writer_of old Local) _ c.requires.writers.1 first.writers.1) c.requires.one)

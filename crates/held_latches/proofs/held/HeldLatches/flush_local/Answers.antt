@@ -1,13 +1,15 @@
 use Rattle.std.proofs.Common.{arith}
-use Rattle.held_latches.proofs.Keeping.{around-local, flushed-local, kept-local}
+use Rattle.span_key.specs.declared.scopes.Scope.TheVariants.{Local}
+use Rattle.held_latches.proofs.Keeping.{flushed}
+use Rattle.held_latches.proofs.Scoped.{around, scope-has}
 use Rattle.held_latches.proofs.held.HeldLatches.flush_local.Goals as goal
 
 pub flush-requires-clause-has : goal.flush-requires-clause-has
 flush-requires-clause-has c =
     let (s, n, o, low) = c.requires.holds in let k = o.kept in (
       o.local,
-      around-local c.args.self.now o.global,
-      kept-local c.args.self.now o.global o.local k,
+      around Local c.args.self.now.global o.global,
+      scope-has Local c.args.self.now o.global o.local k,
       k.sound_local.reads_apart,
       (let b = k.few in omega arith),
       (let b = k.set_aside in omega arith),
@@ -16,6 +18,6 @@ flush-requires-clause-has c =
 pub returns-then-wanted-clause-holds : goal.returns-then-wanted-clause-holds
 returns-then-wanted-clause-holds c = λ s n m b o low.
     let h = c.args.self.now in let k = o.holds.kept in
-    rw c.if-wanted.true (flushed-local h c.flush.new.pool c.flush.new.self s n m c.args.id b o low
-    (c.flush.ensures.flushed o.holds.local (around-local h o.holds.global) (kept-local h o.holds.global o.holds.local k) k.sound_local.reads_apart
+    rw c.if-wanted.true (flushed Local h c.flush.new.pool c.flush.new.self s n m c.args.id b o low
+    (c.flush.ensures.flushed o.holds.local (around Local h.global o.holds.global) (scope-has Local h o.holds.global o.holds.local k) k.sound_local.reads_apart
     (let x = k.few in omega arith) (let x = k.set_aside in omega arith)) c.flush.ensures.writer c.flush.ensures.same)

@@ -11,6 +11,6 @@ invariant-loop-passed l = record {
   slots : slots_of l.self ≡ slots_of l.fn.self;
   size : size_of l.self ≡ size_of l.fn.self;
   writers : (writer_of l.self Global ≡ writer_of l.fn.self Global) × (writer_of l.self Local ≡ writer_of l.fn.self Local);
-  came : (s : Snapshot) (n : ℕ) → MayInsert l.fn.self s n l.id l.lane (length l.latches)
-      → MayInsert l.self (came-from l.id l.lane (length l.latches - l.passed) l.latches s) n l.id l.lane (length l.latches - l.passed);
+  came : (s : Snapshot) (n more : ℕ) → MayInsert l.fn.self s n more l.id l.lane (length l.latches)
+      → MayInsert l.self (came-from l.id l.lane (length l.latches - l.passed) l.latches s) n more l.id l.lane (length l.latches - l.passed);
 }
