@@ -1,0 +1,12 @@
+pub mod Requests
+pub mod Listing
+pub mod Order
+pub mod Adding
+pub mod Ending
+pub mod Writers
+pub mod Own
+pub mod Counts
+pub mod Spare
+pub mod Begins
+pub mod Ends
+pub mod ThreeRequests

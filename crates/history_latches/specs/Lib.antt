@@ -1,0 +1,5 @@
+pub mod Lists
+pub mod Writers
+pub mod Counted
+pub mod Logs
+pub mod Example
