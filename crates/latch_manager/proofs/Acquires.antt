@@ -2,9 +2,9 @@
 use Rattle.std.proofs.Common.{◌≡◌, ℕ, Option, sym, ◌∙◌, ap, subst}
 use Rattle.latch_model.specs.Declaration.{Declaration}
 use Rattle.latch_model.specs.declared.latch.Mode.{Mode}
-use Rattle.signal_board.specs.Says.{LaneSays, PassSays}
+use Rattle.signal_board.specs.Says.{PassSays}
 use Rattle.signal_board.specs.Views.{RequestView}
-use Rattle.waiter.specs.Says.{GrantedSays, WaitingSays}
+use Rattle.waiter.specs.Says.{GrantedSays, OpenedSays, WaitingSays}
 use Rattle.latch_manager.specs.Acquiring.{AcquireFails, Looks, WaitEnds, as_acquire_fault}
 use Rattle.latch_manager.specs.Making.{Began, Finished, Made, done_with, unpolled}
 use Rattle.latch_manager.specs.Waiting.{WaitGrants}
@@ -12,7 +12,7 @@ use Rattle.latch_manager.specs.declared.manager.AcquireFault.{AcquireFault}
 use Rattle.latch_manager.specs.declared.wait.WaitFault.{WaitFault}
 use Rattle.latch_manager.specs.declared.wait.WaitFault.TheVariants as wait_fault
 
-module _ (made : Made) (old mid new : PassSays) (request : Declaration) (mode : Mode) (opened : LaneSays) (began : Began made old mode request opened mid)
+module _ (made : Made) (old mid new : PassSays) (request : Declaration) (mode : Mode) (opened : OpenedSays) (began : Began made old mode request opened mid)
     (waiting : WaitingSays) (unpolled_is : waiting ≡ unpolled opened) where
   module _ (before now : ℕ) (limit : Option ℕ) where
     ends_so : (fault : WaitFault) → WaitEnds made mid (unpolled opened) before now limit fault new →

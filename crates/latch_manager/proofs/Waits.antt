@@ -1,8 +1,7 @@
 -- A request stays the same through its polls, and its cause is one that a wait may find.
-use Rattle.std.proofs.Common.{◌≡◌, ℕ, ◌+◌, ◌-◌, ◌^◌, ◌<◌, ◌≤◌, min, List, ◌∷◌, ◌++◌, Option, Some, refl, sym, ◌∙◌, ap, subst, arith, inl, inr}
+use Rattle.std.proofs.Common.{◌≡◌, ℕ, ◌+◌, ◌-◌, ◌^◌, ◌<◌, ◌≤◌, min, List, Option, Some, refl, sym, ◌∙◌, ap, subst, arith, inl, inr}
 use Rattle.std.specs.List.{Contains}
 use Rattle.std.proofs.Math.Nat.{min-le_left}
-use Rattle.atomic_table.specs.Seated.{TableId}
 use Rattle.latch_model.specs.declared.history.Fault.TheVariants as fault
 use Rattle.latch_model.specs.declared.history.Grant.TheVariants.{Never}
 use Rattle.waiter.specs.declared.mark.Mark.{Mark}
@@ -14,11 +13,12 @@ use Rattle.latch_model.specs.declared.latch.Policy.TheVariants.{Wait, Error}
 use Rattle.signal_board.specs.Rule.{IsPrerequisite}
 use Rattle.signal_board.specs.Says.{first_cause}
 use Rattle.signal_board.specs.Views.{RequestView}
-use Rattle.latch_model.proofs.Lists.{Contains-from_In, In-append_right}
-use Rattle.waiter.specs.Says.{EndingSays, Shows, ShowsLast, WaitingSays, waits_for}
-use Rattle.waiter.specs.Polls.{BlockedUnder, FirstOpen, IsBlockedPoll, IsPoisonedPoll, Polls, SameBut}
+use Rattle.shot_walks.specs.Waits.{FirstOpen, waits_for}
+use Rattle.waiter.specs.Says.{CoreId, EndingSays, Shows, ShowsLast, WaitingSays}
+use Rattle.waiter.specs.Polls.{BlockedUnder, IsBlockedPoll, IsPoisonedPoll, Polls, SameBut}
 use Rattle.waiter.specs.declared.waiting.Polled.{Polled}
 use Rattle.waiter.specs.declared.waiting.Polled.TheVariants as polled
+use Rattle.waiter.proofs.Polling.{first_waits}
 use Rattle.latch_manager.specs.Waiting.{CauseAfter, CauseFound, StillWaits, WaitMeets, WaitStops}
 
 -- a request that wasn't polled
@@ -36,8 +36,8 @@ abbrev pub LearntEnds : WaitingSays → WaitingSays → Type 0
 LearntEnds old new = new ≡ record old { r = record old.r { ended = new.r.ended } }
 
 module _ (old new : WaitingSays) (learnt : LearntEnds old new) where
-  pub table-learnt : new.table ≡ old.table
-  table-learnt = ap (λ (w : WaitingSays). w.table) learnt
+  pub core-learnt : new.core ≡ old.core
+  core-learnt = ap (λ (w : WaitingSays). w.core) learnt
 
   pub turns-learnt : new.turns ≡ old.turns
   turns-learnt = ap (λ (w : WaitingSays). w.turns) learnt
@@ -51,9 +51,7 @@ module _ (old new : WaitingSays) (learnt : LearntEnds old new) where
 
 -- the request that blocks it is a prerequisite
 blocker : (old new : RequestView) (x : HeldLatch) → FirstOpen old new x → IsPrerequisite old x.by x.lane
-blocker old new x f =
-    let there = Contains-from_In (f.front ++ x ∷ f.rest) x (In-append_right f.front (x ∷ f.rest) x (inl refl)) in
-    (x, subst (λ (xs : List HeldLatch). Contains xs x) (sym f.stands) there, refl, refl)
+blocker old new x f = (x, first_waits old new x f, refl, refl)
 
 first_found : (r : RequestView) (came now : Cause) (p lane : ℕ) → IsPrerequisite r p lane → CauseFound r came Wait now
     → CauseFound r came Wait (first_cause now (From p))
@@ -106,10 +104,10 @@ waits_same : (came old : RequestView) → StillWaits came old → waits_for old 
 waits_same came old still = ap waits_for still.same
 
 -- It met a latch of a poisoned request.
-pub wait-meets : (came old new : WaitingSays) (by place : ℕ) (mark : Mark) (ending : EndingSays) → new.table ≡ came.table → StillWaits came.r old.r →
+pub wait-meets : (came old new : WaitingSays) (by place : ℕ) (mark : Mark) (ending : EndingSays) → new.core ≡ came.core → StillWaits came.r old.r →
     SameBut old new → IsPoisonedPoll old new by place → ShowsLast (Some mark) new.last →
-    ending ≡ record { table = new.table; r = new.r; grant = Never; fault = fault.Poisoned by } → WaitMeets came mark ending
-wait-meets came old new by place mark ending table still but p shows is =
+    ending ≡ record { core = new.core; r = new.r; grant = Never; fault = fault.Poisoned by } → WaitMeets came mark ending
+wait-meets came old new by place mark ending core still but p shows is =
     let m = subst (ShowsLast (Some mark)) p.last shows in
     let shown : Shows mark p.latch = subst (λ (x : Mark). Shows x p.latch) (sym (some_is mark m.0 m.1)) m.2 in
     let number : by ≡ mark.by = p.whose ∙ sym shown.0 in
@@ -117,24 +115,22 @@ wait-meets came old new by place mark ending table still but p shows is =
       r = new.r;
       still = still-polled came old new still but (polled.Poisoned by place) p;
       x = p.latch;
-      waits =
-          subst (λ (xs : List HeldLatch). Contains xs p.latch) (sym p.first.stands ∙ waits_same came.r old.r still)
-          (Contains-from_In (p.first.front ++ p.latch ∷ p.first.rest) p.latch (In-append_right p.first.front (p.latch ∷ p.first.rest) p.latch (inl refl)));
+      waits = subst (λ (xs : List HeldLatch). Contains xs p.latch) (waits_same came.r old.r still) (first_waits old.r new.r p.latch p.first);
       shows = shown;
       policy = ap (λ (x : RequestView). x.request.policy) (sym still.same) ∙ p.policy;
       ending_is =
-          is ∙ ap (λ (x : TableId × ℕ). record { table = x.0; r = new.r; grant = Never; fault = fault.Poisoned x.1 }) (λ i. (table i, number i));
+          is ∙ ap (λ (x : CoreId × ℕ). record { core = x.0; r = new.r; grant = Never; fault = fault.Poisoned x.1 }) (λ i. (core i, number i));
     }
   where
     some_is : (a b : Mark) → Some a ≡ Some b → a ≡ b
     some_is a b e = cc
 
 -- Its patience refused after a poll that was blocked.
-pub wait-stops : (came old new : WaitingSays) (by place : ℕ) (limit : Option ℕ) (ending : EndingSays) → new.table ≡ came.table → StillWaits came.r old.r →
+pub wait-stops : (came old new : WaitingSays) (by place : ℕ) (limit : Option ℕ) (ending : EndingSays) → new.core ≡ came.core → StillWaits came.r old.r →
     SameBut old new → IsBlockedPoll old new by place → ((n : ℕ) → limit ≡ Some n → came.turns < n → old.turns < n) →
-    ((n : ℕ) → limit ≡ Some n → n ≤ new.turns) → ending ≡ record { table = new.table; r = new.r; grant = Never; fault = fault.Cancelled new.turns } →
+    ((n : ℕ) → limit ≡ Some n → n ≤ new.turns) → ending ≡ record { core = new.core; r = new.r; grant = Never; fault = fault.Cancelled new.turns } →
     WaitStops came new.turns limit ending
-wait-stops came old new by place limit ending table still but p left most is = record {
+wait-stops came old new by place limit ending core still but p left most is = record {
   r = new.r;
   still = still-polled came old new still but (polled.Blocked by place) p;
   at_limit = λ n e lt.
@@ -143,5 +139,5 @@ wait-stops came old new by place limit ending table still but p left most is = r
       let one : new.turns ≡ min (old.turns + 1) (2 ^ 64 - 1) = p.turns in
       let up : min (old.turns + 1) (2 ^ 64 - 1) ≤ old.turns + 1 = min-le_left (old.turns + 1) (2 ^ 64 - 1) in
       omega arith;
-  ending_is = is ∙ ap (λ (x : TableId). record { table = x; r = new.r; grant = Never; fault = fault.Cancelled new.turns }) table;
+  ending_is = is ∙ ap (λ (x : CoreId). record { core = x; r = new.r; grant = Never; fault = fault.Cancelled new.turns }) core;
 }

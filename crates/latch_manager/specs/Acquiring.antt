@@ -2,8 +2,8 @@
 use Rattle.std.specs.Prelude.{◌≡◌, ℕ, Option}
 use Rattle.latch_model.specs.Declaration.{Declaration}
 use Rattle.latch_model.specs.declared.latch.Mode.{Mode}
-use Rattle.signal_board.specs.Says.{LaneSays, PassSays}
-use Rattle.waiter.specs.Says.{EndingSays, GrantedSays, WaitingSays}
+use Rattle.signal_board.specs.Says.{PassSays}
+use Rattle.waiter.specs.Says.{EndingSays, GrantedSays, OpenedSays, WaitingSays}
 use Rattle.latch_manager.specs.Making.{Began, Finished, Made, done_with, unpolled}
 use Rattle.latch_manager.specs.Declining.{Declined}
 use Rattle.latch_manager.specs.Patience.{Refused}
@@ -32,14 +32,14 @@ pub record WaitEnds (made : Made) (old : PassSays) (waiting : WaitingSays) (befo
 
 -- A request was begun and granted.
 pub record Acquires (made : Made) (old : PassSays) (request : Declaration) (mode : Mode) (granted : GrantedSays) (new : PassSays) : Type 0 where
-  pub opened : LaneSays
+  pub opened : OpenedSays
   pub began : Began made old mode request opened new
   pub grants : WaitGrants (unpolled opened) granted
 
 -- A request was begun, its wait failed, and it was ended.
 pub record AcquireEnds (made : Made) (old : PassSays) (request : Declaration) (mode : Mode) (before now : ℕ) (limit : Option ℕ) (fault : WaitFault)
     (new : PassSays) : Type 0 where
-  pub opened : LaneSays
+  pub opened : OpenedSays
   pub mid : PassSays
   pub began : Began made old mode request opened mid
   pub ends : WaitEnds made mid (unpolled opened) before now limit fault new

@@ -4,7 +4,7 @@ use Rattle.std.specs.Prelude.{◌≡◌, ℕ, ◌≤◌, ◌<◌, List, [], ◌�
 use Rattle.std.specs.List.{All, Contains}
 use Rattle.atomic_table.specs.Seated.{TableId}
 use Rattle.latch_model.specs.Declaration.{Declaration}
-use Rattle.latch_model.specs.Histories.{begin_with, entry_of}
+use Rattle.latch_model.specs.Histories.{begin_with, entry_of, open_begins}
 use Rattle.latch_model.specs.Legal.{IsLegal}
 use Rattle.latch_model.specs.declared.history.Entry.{Entry}
 use Rattle.latch_model.specs.declared.history.Fault.TheVariants.{None as no_fault}
@@ -14,20 +14,21 @@ use Rattle.sequence_core.specs.Counted.{metrics_of}
 pub use Rattle.sequence_core.specs.Says.{end_entry, next_begin}
 use Rattle.sequence_core.specs.declared.metrics.Metrics.{Metrics}
 use Rattle.signal_board.specs.Rule.{IsPrefix, begun_as, open_count}
-use Rattle.signal_board.specs.Says.{LaneSays, PassSays, shown_all, shown_to}
+use Rattle.signal_board.specs.Says.{PassSays, shown_all, shown_to}
 use Rattle.signal_board.specs.Steps.{new_request, wrote}
-use Rattle.waiter.specs.Says.{EndingSays, GrantedSays, WaitingSays, Unpolled}
+use Rattle.waiter.specs.Says.{CoreId, EndingSays, GrantedSays, OpenedSays, WaitingSays, Unpolled}
 
--- A making: the table of its shared words, and its sizes.
+-- A making: its core, and its sizes.
 pub record Made : Type 0 where
-  pub table : TableId
+  pub core : CoreId
   pub sizes : Sizes
 
+-- a table of no words
+abbrev no_table : TableId
+no_table = record { words = 0; slots = 0; views_name = 0; atom = 0; block = 0; offset = 0; slot_names = [] }
+
 abbrev pub nothing_made : Made
-nothing_made = record {
-  table = record { words = 0; slots = 0; views_name = 0; atom = 0; block = 0; offset = 0; slot_names = [] };
-  sizes = record { latches = 0; lanes = 0; rows = 0 };
-}
+nothing_made = record { core = record { signals = no_table; rows = no_table }; sizes = record { latches = 0; lanes = 0; rows = 0 } }
 
 -- One entry of the pass was added to the history as it stood, which was no shorter than what the pass had seen and went on from what it had
 -- been shown. The pass has then been shown all of it.
@@ -38,11 +39,11 @@ pub record Adds (sizes : Sizes) (old : PassSays) (log : List Entry) (e : Entry) 
   pub pass : new ≡ record old { p = shown_all (log ++ e ∷ []) (wrote old.p (length log) e) }
 
 -- A request was begun: it has been shown the history with its begin, and the pass has one open request now.
-pub record Began (made : Made) (old : PassSays) (mode : Mode) (request : Declaration) (opened : LaneSays) (new : PassSays) : Type 0 where
+pub record Began (made : Made) (old : PassSays) (mode : Mode) (request : Declaration) (opened : OpenedSays) (new : PassSays) : Type 0 where
   pub log : List Entry
   pub adds : Adds made.sizes old log (entry_of (next_begin log old.p.who mode request)) new
   pub opened_is : opened ≡ record {
-    table = made.table;
+    core = made.core;
     r = shown_to (log ++ entry_of (next_begin log old.p.who mode request) ∷ []) (new_request log (entry_of (next_begin log old.p.who mode request)));
   }
   pub busy : open_count new.p.mine ≡ 1
@@ -55,19 +56,20 @@ pub record Finished (made : Made) (old : PassSays) (ending : EndingSays) (new : 
   pub idle : open_count new.p.mine ≡ 0
 
 -- a request that begins to wait
-abbrev pub unpolled : LaneSays → WaitingSays
-unpolled opened = record { table = opened.table; r = opened.r; turns = 0; last = Unpolled }
+abbrev pub unpolled : OpenedSays → WaitingSays
+unpolled opened = record { core = opened.core; r = opened.r; turns = 0; last = Unpolled }
 
 -- A granted request that ends as it was granted.
 abbrev pub done_with : GrantedSays → EndingSays
-done_with granted = record { table = granted.table; r = granted.r; grant = granted.grant; fault = no_fault }
+done_with granted = record { core = granted.core; r = granted.r; grant = granted.grant; fault = no_fault }
 
--- These are the counts of some history of the making, which is legal.
+-- These are the counts of some history of the making, which is legal, beside the free rows. Where no request of it is open, these are all rows.
 abbrev pub CountsSome : Made → Metrics → Type 0
-CountsSome made counts = (log : List Entry) × IsLegal log made.sizes × (counts ≡ metrics_of log made.sizes)
+CountsSome made counts =
+    (log : List Entry) × IsLegal log made.sizes × (counts ≡ metrics_of log counts.free) × (open_begins log ≡ [] → counts.free ≡ made.sizes.rows)
 
 -- All passes of a making, each without an open request.
 pub record HasAllPasses (made : Made) (passes : List PassSays) : Type 0 where
-  pub tables : All (λ p. p.table ≡ made.table) passes
+  pub tables : All (λ p. p.table ≡ made.core.signals) passes
   pub idle : All (λ p. open_count p.p.mine ≡ 0) passes
   pub each : (who : ℕ) → 0 < who → who ≤ made.sizes.lanes → (p : PassSays) × Contains passes p × (p.p.who ≡ who)

@@ -10,7 +10,8 @@ use Rattle.latch_model.specs.declared.latch.Policy.{Policy}
 use Rattle.latch_model.specs.declared.latch.Policy.TheVariants.{Wait, Error}
 use Rattle.signal_board.specs.Rule.{IsPrerequisite}
 use Rattle.signal_board.specs.Views.{RequestView}
-use Rattle.waiter.specs.Says.{EndingSays, GrantedSays, Shows, WaitingSays, waits_for}
+use Rattle.shot_walks.specs.Waits.{waits_for}
+use Rattle.waiter.specs.Says.{EndingSays, GrantedSays, Shows, WaitingSays}
 use Rattle.waiter.specs.declared.mark.Mark.{Mark}
 
 -- A cause that a wait may find: none, or a prerequisite that was poisoned.
@@ -41,7 +42,7 @@ pub record WaitGrants (waiting : WaitingSays) (granted : GrantedSays) : Type 0 w
   pub still : StillWaits waiting.r r
   pub front : ℕ
   pub later : length r.shown ≤ front
-  pub granted_is : granted ≡ record { table = waiting.table; r = record r { front = Some front }; grant = Waited front }
+  pub granted_is : granted ≡ record { core = waiting.core; r = record r { front = Some front }; grant = Waited front }
 
 -- Where the patience has a limit and the request came with fewer turns, its turns are the limit now.
 abbrev pub AtLimit : Option ℕ → ℕ → ℕ → Type 0
@@ -55,11 +56,11 @@ pub record WaitMeets (waiting : WaitingSays) (mark : Mark) (ending : EndingSays)
   pub waits : Contains (waits_for waiting.r) x
   pub shows : Shows mark x
   pub policy : waiting.r.request.policy ≡ Error
-  pub ending_is : ending ≡ record { table = waiting.table; r = r; grant = Never; fault = fault.Poisoned mark.by }
+  pub ending_is : ending ≡ record { core = waiting.core; r = r; grant = Never; fault = fault.Poisoned mark.by }
 
 -- A wait whose patience refused: so many polls were Blocked.
 pub record WaitStops (waiting : WaitingSays) (turns : ℕ) (limit : Option ℕ) (ending : EndingSays) : Type 0 where
   pub r : RequestView
   pub still : StillWaits waiting.r r
   pub at_limit : AtLimit limit waiting.turns turns
-  pub ending_is : ending ≡ record { table = waiting.table; r = r; grant = Never; fault = fault.Cancelled turns }
+  pub ending_is : ending ≡ record { core = waiting.core; r = r; grant = Never; fault = fault.Cancelled turns }

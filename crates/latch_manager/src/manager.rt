@@ -6,6 +6,7 @@ ghost use Rattle.latch_model.specs.Legal.{IsLegal};
 ghost use Rattle.latch_model.specs.declared.latch.Mode.TheVariants.{Acquire, Look, Optimistic};
 ghost use Rattle.signal_board.specs.Rule.{ByGiven, IsPrefix, open_count, own};
 ghost use Rattle.signal_board.specs.Says.{PassSays};
+ghost use Rattle.waiter.specs.Says.{id_of};
 ghost use Rattle.latch_manager.specs.Acquiring.{AcquireFails, Acquires, Looks, WaitEnds, as_acquire_fault};
 ghost use Rattle.latch_manager.specs.Making.{Began, CountsSome, Finished, HasAllPasses, done_with};
 ghost use Rattle.latch_manager.specs.Declining.{Declined};
@@ -42,7 +43,7 @@ impl Making for Brand {
 struct Locked<N: Making> {
     desk: Desk,
     of: PhantomData<N>,
-    ghost is: { (desk.table ≡ N.made.table) × (desk.sizes ≡ N.made.sizes) },
+    ghost is: { (desk.core ≡ N.made.core) × (desk.sizes ≡ N.made.sizes) },
 }
 
 /// A desk that threads share. The mutex is held for the desk's own calls alone: while it takes a snapshot and begins a request, and while it ends one.
@@ -55,12 +56,13 @@ pub struct Manager<N: Making> {
 impl<N: Making> Model for Manager<N> {
     ghost use Rattle.std.specs.Prelude.{◌≡◌};
     ghost use Rattle.latch_model.specs.declared.history.Sizes.{Sizes};
+    ghost use Rattle.waiter.specs.Says.{id_of};
 
     ghost Value = { Sizes };
 
     ghost view = { λ m. m.core.board.sizes };
 
-    ghost invariant = { λ m. (m.core.board.table ≡ N.made.table) × (m.core.board.sizes ≡ N.made.sizes) };
+    ghost invariant = { λ m. (id_of m.core ≡ N.made.core) × (m.core.board.sizes ≡ N.made.sizes) };
 }
 
 /// Why nothing was acquired: the request didn't begin, it met this latch of a poisoned request, or its patience refused.
@@ -74,8 +76,8 @@ pub enum AcquireFault {
 impl<N: Making> Manager<N> {
     /// A manager of this desk.
     pub fn new(core: Core, desk: Desk) -> Manager<N>
-        requires core { (core.board.table ≡ N.made.table) × (core.board.sizes ≡ N.made.sizes) }
-        requires desk { (desk.table ≡ N.made.table) × (desk.sizes ≡ N.made.sizes) }
+        requires core { (id_of core ≡ N.made.core) × (core.board.sizes ≡ N.made.sizes) }
+        requires desk { (desk.core ≡ N.made.core) × (desk.sizes ≡ N.made.sizes) }
         ensures { result ≡ core.board.sizes }
     {
         Manager {
@@ -90,8 +92,8 @@ impl<N: Making> Manager<N> {
 
     /// The core and the desk.
     pub fn into_parts(self) -> (Core, Desk)
-        ensures core { (result.0.board.table ≡ N.made.table) × (result.0.board.sizes ≡ N.made.sizes) }
-        ensures desk { (result.1.table ≡ N.made.table) × (result.1.sizes ≡ N.made.sizes) }
+        ensures core { (id_of result.0 ≡ N.made.core) × (result.0.board.sizes ≡ N.made.sizes) }
+        ensures desk { (result.1.core ≡ N.made.core) × (result.1.sizes ≡ N.made.sizes) }
     {
         let Manager {
             core,
@@ -104,7 +106,7 @@ impl<N: Making> Manager<N> {
 
     /// What the requests share.
     pub fn core(&self) -> &Core
-        ensures table { result.now.board.table ≡ N.made.table }
+        ensures core { id_of result.now ≡ N.made.core }
         ensures sizes { result.now.board.sizes ≡ self.now }
     {
         &self.core
@@ -119,7 +121,7 @@ impl<N: Making> Manager<N> {
         request: Request,
         mode: Mode,
     ) -> Result<Opened, SeqRefusal>
-        requires table { pass.old.table ≡ N.made.table }
+        requires table { pass.old.table ≡ N.made.core.signals }
         requires idle { open_count pass.old.p.mine ≡ 0 }
         ensures began { IfOk result (λ opened. Began N.made pass.old mode request opened pass.new) }
         ensures declined { IfErr result (λ e. Declined N.made pass.old mode request e.fault pass.new) }
@@ -137,9 +139,9 @@ impl<N: Making> Manager<N> {
         pass: &mut Pass,
         request: Request,
     ) -> Result<Optimist, SeqRefusal>
-        requires table { pass.old.table ≡ N.made.table }
+        requires table { pass.old.table ≡ N.made.core.signals }
         requires idle { open_count pass.old.p.mine ≡ 0 }
-        ensures began { IfOk result (λ o. Began N.made pass.old Optimistic request (record { table = o.table; r = o.r }) pass.new) }
+        ensures began { IfOk result (λ o. Began N.made pass.old Optimistic request (record { core = o.core; r = o.r }) pass.new) }
         ensures unchecked { IfOk result (λ o. (o.met ≡ None) × (o.passed ≡ None)) }
         ensures declined { IfErr result (λ e. Declined N.made pass.old Optimistic request e.fault pass.new) }
         ensures handed_back { IfErr result (λ e. e.request ≡ request) }
@@ -158,7 +160,7 @@ impl<N: Making> Manager<N> {
         waiting: Waiting,
         patience: &mut P,
     ) -> Result<Granted, WaitFault>
-        requires tables { (pass.old.table ≡ N.made.table) × (waiting.table ≡ N.made.table) }
+        requires core { (pass.old.table ≡ N.made.core.signals) × (waiting.core ≡ N.made.core) }
         requires session { waiting.r.who ≡ pass.old.p.who }
         ensures granted { IfOk result (λ g. WaitGrants waiting g × (pass.new ≡ pass.old)) }
         ensures failed { IfErr result (λ f.
@@ -185,7 +187,7 @@ impl<N: Making> Manager<N> {
         request: Request,
         patience: &mut P,
     ) -> Result<Granted, AcquireFault>
-        requires table { pass.old.table ≡ N.made.table }
+        requires table { pass.old.table ≡ N.made.core.signals }
         requires idle { open_count pass.old.p.mine ≡ 0 }
         ensures granted { IfOk result (λ g. Acquires N.made pass.old request Acquire g pass.new) }
         ensures failed { IfErr result (λ f.
@@ -211,7 +213,7 @@ impl<N: Making> Manager<N> {
         request: Request,
         patience: &mut P,
     ) -> Result<u64, AcquireFault>
-        requires table { pass.old.table ≡ N.made.table }
+        requires table { pass.old.table ≡ N.made.core.signals }
         requires idle { open_count pass.old.p.mine ≡ 0 }
         ensures looked { IfOk result (λ id. Looks N.made pass.old request Look id pass.new) }
         ensures failed { IfErr result (λ f.
@@ -234,7 +236,7 @@ impl<N: Making> Manager<N> {
 
     /// Ends a granted request, and wakes who sleeps until its end.
     pub fn release<R: Wait>(&self, rt: &R, pass: &mut Pass, granted: Granted)
-        requires tables { (pass.old.table ≡ N.made.table) × (granted.table ≡ N.made.table) }
+        requires core { (pass.old.table ≡ N.made.core.signals) × (granted.core ≡ N.made.core) }
         requires session { granted.r.who ≡ pass.old.p.who }
         ensures finished { Finished N.made pass.old (done_with granted) pass.new }
     {
@@ -243,7 +245,7 @@ impl<N: Making> Manager<N> {
 
     /// Ends a request that was given up, and wakes who sleeps until its end.
     pub fn give_up<R: Wait>(&self, rt: &R, pass: &mut Pass, ending: Ending)
-        requires tables { (pass.old.table ≡ N.made.table) × (ending.table ≡ N.made.table) }
+        requires core { (pass.old.table ≡ N.made.core.signals) × (ending.core ≡ N.made.core) }
         requires session { ending.r.who ≡ pass.old.p.who }
         ensures finished { Finished N.made pass.old ending pass.new }
     {
@@ -255,8 +257,8 @@ impl<N: Making> Manager<N> {
         self.wakes.raise_all(rt);
     }
 
-    /// How many latches are held and how many reads are pending, by scope, and how many rows are free, at some moment of the call: as some history of the
-    /// making has them, which is legal.
+    /// How many latches are held and how many reads are pending, by scope, and how many rows are free, at some moment of the call. The latches and the reads
+    /// are those of some history of the making, which is legal. Where no request of it is open, all rows are free.
     pub fn metrics<R: Wait>(&self, rt: &R) -> Metrics
         ensures { CountsSome N.made result }
     {
@@ -282,7 +284,7 @@ impl<N: Making> Manager<N> {
 
     // Ends a request under the mutex, and then wakes who sleeps at it.
     fn end<R: Wait>(&self, rt: &R, pass: &mut Pass, ending: Ending)
-        requires tables { (pass.old.table ≡ N.made.table) × (ending.table ≡ N.made.table) }
+        requires core { (pass.old.table ≡ N.made.core.signals) × (ending.core ≡ N.made.core) }
         requires session { ending.r.who ≡ pass.old.p.who }
         ensures finished { Finished N.made pass.old ending pass.new }
     {
@@ -292,7 +294,7 @@ impl<N: Making> Manager<N> {
     }
 
     fn end_one<R: Wait>(&self, rt: &R, pass: &mut Pass, ending: Ending)
-        requires tables { (pass.old.table ≡ N.made.table) × (ending.table ≡ N.made.table) }
+        requires core { (pass.old.table ≡ N.made.core.signals) × (ending.core ≡ N.made.core) }
         requires session { ending.r.who ≡ pass.old.p.who }
         ensures finished { Finished N.made pass.old ending pass.new }
     {
@@ -310,7 +312,7 @@ fn begin<N: Making>(
     request: Request,
     mode: Mode,
 ) -> Result<Opened, SeqRefusal>
-    requires tables { (core.now.board.table ≡ N.made.table) × (pass.old.table ≡ N.made.table) }
+    requires core { (id_of core.now ≡ N.made.core) × (pass.old.table ≡ N.made.core.signals) }
     requires idle { open_count pass.old.p.mine ≡ 0 }
     ensures began { IfOk result (λ opened. Began N.made pass.old mode request opened pass.new) }
     ensures declined { IfErr result (λ e. Declined N.made pass.old mode request e.fault pass.new) }

@@ -3,7 +3,7 @@ ghost use Rattle.std.specs.Prelude.{◌≡◌, ◌≢◌, ◌≤◌, ◌<◌, �
 ghost use Rattle.latch_model.specs.Histories.{HeldLatch};
 ghost use Rattle.latch_model.specs.declared.history.Fault.TheVariants.{Cancelled as by_cancel, Poisoned as by_poison};
 ghost use Rattle.latch_model.specs.declared.history.Grant.TheVariants.{Never};
-ghost use Rattle.waiter.specs.Says.{Blocked, Poisoned, ShowsLast};
+ghost use Rattle.waiter.specs.Says.{Blocked, Poisoned, ShowsLast, id_of};
 ghost use Rattle.waiter.specs.declared.mark.Mark.{Mark as Marks};
 ghost use Rattle.latch_manager.specs.Acquiring.{WaitFailsAs};
 ghost use Rattle.latch_manager.specs.Waiting.{WaitGrants};
@@ -35,7 +35,7 @@ pub(crate) fn until_granted<R: Wait, P: Patience>(
     mut waiting: Waiting,
     patience: &mut P,
 ) -> Result<Granted, Failed>
-    requires table { waiting.table ≡ core.now.board.table }
+    requires core { waiting.core ≡ id_of core.now }
     ensures granted { IfOk result (λ g. WaitGrants waiting g) }
     ensures failed { IfErr result (λ f. WaitFailsAs waiting f.ending (P.refusals patience.old) (P.refusals patience.new) (P.limit patience.old) f.fault) }
     ensures later { P.refusals patience.old ≤ P.refusals patience.new }
@@ -72,7 +72,7 @@ fn spread<R: Wait>(rt: &R, wakes: &Wakes, came: Cause, now: Cause) {
 // The request at which one sleeps that this one blocks: the last open one that it waits for, so that few ends wake it in vain. Once anything was poisoned
 // it is the one that blocks, since behind that one's end a poisoned one may come next.
 fn place_to_sleep(core: &Core, wakes: &Wakes, waiting: &mut Waiting, by: u64) -> u64
-    requires table { waiting.old.table ≡ core.now.board.table }
+    requires core { waiting.old.core ≡ id_of core.now }
     requires blocked { (x : HeldLatch) × (waiting.old.last ≡ Blocked x) }
     ensures same { waiting.new ≡ record waiting.old { r = record waiting.old.r { ended = waiting.new.r.ended } } }
 {
@@ -85,9 +85,9 @@ fn place_to_sleep(core: &Core, wakes: &Wakes, waiting: &mut Waiting, by: u64) ->
 
 // The request meets a latch of a poisoned one, and is to end so.
 fn fail(core: &Core, waiting: Waiting, by: u64) -> Failed
-    requires table { waiting.table ≡ core.now.board.table }
+    requires core { waiting.core ≡ id_of core.now }
     requires poisoned { (x : HeldLatch) × (waiting.last ≡ Poisoned x) × (x.by ≡ by) }
-    ensures ending { result.ending ≡ record { table = waiting.table; r = waiting.r; grant = Never; fault = by_poison by } }
+    ensures ending { result.ending ≡ record { core = waiting.core; r = waiting.r; grant = Never; fault = by_poison by } }
     ensures fault { (mark : Marks) × (result.fault ≡ WaitFault.Poisoned mark) × ShowsLast (Some mark) waiting.last }
 {
     let (ending, mark) = waiting.abandon(core, Fault::Poisoned(by));
@@ -110,9 +110,9 @@ fn there(mark: Option<Mark>) -> Mark
 
 // The patience refused, and the request is to end so.
 fn cancel(core: &Core, waiting: Waiting) -> Failed
-    requires table { waiting.table ≡ core.now.board.table }
+    requires core { waiting.core ≡ id_of core.now }
     requires blocked { (x : HeldLatch) × (waiting.last ≡ Blocked x) }
-    ensures ending { result.ending ≡ record { table = waiting.table; r = waiting.r; grant = Never; fault = by_cancel waiting.turns } }
+    ensures ending { result.ending ≡ record { core = waiting.core; r = waiting.r; grant = Never; fault = by_cancel waiting.turns } }
     ensures fault { result.fault ≡ WaitFault.Cancelled waiting.turns }
 {
     let turns = waiting.turns();

@@ -1,8 +1,8 @@
 -- The blocks of a session grow with its commands: an opening adds a block, and another command goes into the last one.
-use Rattle.std.proofs.Common.{◌≡◌, ℕ, zero, suc, ◌+◌, ◌==◌, Bool, true, false, cond, List, [], ◌∷◌, ◌++◌, length, take, slice_get, Option, Some, None}
-use Rattle.std.proofs.Common.{refl, sym, ◌∙◌}
-use Rattle.std.proofs.Common.{ap, subst, arith}
-use Rattle.std.specs.List.{enumerate_from, filter, list_any}
+use Rattle.std.proofs.Common.{◌≡◌, ℕ, zero, suc, ◌+◌, Bool, true, false, cond, List, [], ◌∷◌, ◌++◌, length, take, slice_get, Option, Some}
+use Rattle.std.proofs.Common.{refl, ◌∙◌}
+use Rattle.std.proofs.Common.{ap, arith}
+use Rattle.std.specs.List.{enumerate_from, filter}
 use Rattle.std.proofs.lemmas.List.Elements.{filter-append}
 use Rattle.std.proofs.lemmas.List.{append-nil}
 use Rattle.std.proofs.Math.Seq.{take-length}
@@ -10,8 +10,7 @@ use Rattle.latch_model.specs.declared.latch.Latch.{Latch}
 use Rattle.latch_model.specs.declared.latch.Mode.{Mode}
 use Rattle.latch_model.specs.declared.latch.Policy.{Policy}
 use Rattle.latch_model.proofs.Members.{take_next}
-use Rattle.script.specs.Commands.{opens_for}
-use Rattle.script.specs.Follows.{Block, blocks_of, commands_of, in_blocks, is_of, with_command}
+use Rattle.script.specs.Follows.{Block, blocks_of, in_blocks, is_of, with_command}
 use Rattle.script.specs.declared.command.Command.{Command}
 use Rattle.script.specs.declared.command.Command.TheVariants.{Begin, Wait, Check, Poison, Release, Metrics}
 use Rattle.replay.specs.Blocks.{blocks_until, commands_until, new_block, with_more}

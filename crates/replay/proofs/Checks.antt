@@ -1,12 +1,11 @@
 -- A check of the optimistic request in hand answers as the definition of what a block's checks passed.
-use Rattle.std.proofs.Common.{◌≡◌, ◌≢◌, ℕ, ◌+◌, ◌&&◌, Bool, true, false, not, cond, IsTrue, List, [], ◌∷◌, ◌++◌, Option, Some, None, refl, sym, ◌∙◌}
+use Rattle.std.proofs.Common.{◌≡◌, ℕ, ◌+◌, ◌&&◌, Bool, true, false, not, cond, IsTrue, List, [], ◌∷◌, Option, Some, None, refl, sym, ◌∙◌}
 use Rattle.std.proofs.Common.{ap, subst, inl, inr, ◌||◌}
 use Rattle.std.specs.List.{list_all, list_any, position, position_from}
 use Rattle.std.proofs.lemmas.Bool.{false_from_ne_true}
 use Rattle.std.proofs.lemmas.Iterator.Adapters.{position_from-zero}
-use Rattle.atomic_table.specs.Seated.{TableId}
 use Rattle.latch_model.specs.Checks.{is_declared}
-use Rattle.latch_model.specs.Histories.{Begin, HeldLatch, begin_with, entry_of, in_front, latches_held, latches_of, listed, met_in, shot, snapshot_of}
+use Rattle.latch_model.specs.Histories.{Begin, HeldLatch, entry_of, in_front, latches_held, latches_of, listed, met_in, snapshot_of}
 use Rattle.latch_model.specs.Latches.{conflict, lies_in_latch}
 use Rattle.latch_model.specs.declared.history.Entry.{Entry}
 use Rattle.latch_model.specs.declared.latch.Latch.{Latch}
@@ -18,14 +17,14 @@ use Rattle.std.specs.Option.{option_map_or}
 use Rattle.script.specs.Follows.{Block, called_cause, has_wait, is_called, passed_check, passed_in}
 use Rattle.script.specs.declared.command.Command.{Command}
 use Rattle.script.specs.declared.command.Command.TheVariants.{Check}
-use Rattle.signal_board.specs.Rule.{begun_as, entries}
+use Rattle.signal_board.specs.Rule.{begun_as}
 use Rattle.signal_board.specs.Views.{PassView, RequestView}
-use Rattle.waiter.specs.Says.{OptimistSays}
+use Rattle.waiter.specs.Says.{CoreId, OptimistSays}
 use Rattle.waiter.specs.Polls.{Checks}
 use Rattle.waiter.specs.declared.optimist.Checked.{Checked}
 use Rattle.waiter.specs.declared.optimist.Checked.TheVariants as answered
 use Rattle.replay.specs.Blocks.{GrowsBy, with_more}
-use Rattle.replay.specs.Sessions.{Checking, IsChecking, Standing, Unreleased}
+use Rattle.replay.specs.Sessions.{Checking, IsChecking, Standing}
 use Rattle.replay.proofs.Made.{called-more, passed-more, waits-more}
 use Rattle.replay.proofs.Turns.{busy-more}
 
@@ -160,27 +159,27 @@ module _ (h : List Entry) (b : Block) (name : List ℕ) (asked : List Latch) (o 
         (ap (λ s. met_in s asked) (sym shot_here) ∙ some)))
 
 -- At the level of the session: any of the three.
-pub checking-checked : (table : TableId) (p : PassView) (bs ds : List Block) (c : Command) → GrowsBy c bs ds → (o now : OptimistSays) →
-    (o.table ≡ now.table) → (o.r ≡ now.r) → ((last : Block) → IsChecking p.shown last o → IsChecking p.shown (with_more last c) now) →
-    Standing table p bs (Checking o) → Standing table p ds (Checking now)
-checking-checked table p bs ds c grows o now t r f s = record {
+pub checking-checked : (core : CoreId) (p : PassView) (bs ds : List Block) (c : Command) → GrowsBy c bs ds → (o now : OptimistSays) →
+    (o.core ≡ now.core) → (o.r ≡ now.r) → ((last : Block) → IsChecking p.shown last o → IsChecking p.shown (with_more last c) now) →
+    Standing core p bs (Checking o) → Standing core p ds (Checking now)
+checking-checked core p bs ds c grows o now t r f s = record {
   each = s.each;
-  stands = busy-more table p bs ds c grows (Checking o) (Checking now) s.stands
+  stands = busy-more core p bs ds c grows (Checking o) (Checking now) s.stands
       (λ last own u. (f last u.0, u.1 ∙ ap (λ (x : RequestView). entry_of (begun_as x) ∷ []) r));
   given = (sym t ∙ s.given.0, ap (λ (x : RequestView). x.who) (sym r) ∙ s.given.1);
 }
 
 -- By the answer of the check.
-pub checks-stand : (table : TableId) (p : PassView) (bs ds : List Block) (name : List ℕ) (asked : List Latch) → GrowsBy (Check name asked) bs ds →
-    (o now : OptimistSays) (answer : Checked) → Checks o now asked answer → Standing table p bs (Checking o) → Standing table p ds (Checking now)
-checks-stand table p bs ds name asked grows o now answered.Clear k s =
-    subst (λ (x : OptimistSays). Standing table p ds (Checking x)) (sym k.2)
-    (checking-checked table p bs ds (Check name asked) grows o (record o { passed = Some asked }) refl refl
+pub checks-stand : (core : CoreId) (p : PassView) (bs ds : List Block) (name : List ℕ) (asked : List Latch) → GrowsBy (Check name asked) bs ds →
+    (o now : OptimistSays) (answer : Checked) → Checks o now asked answer → Standing core p bs (Checking o) → Standing core p ds (Checking now)
+checks-stand core p bs ds name asked grows o now answered.Clear k s =
+    subst (λ (x : OptimistSays). Standing core p ds (Checking x)) (sym k.2)
+    (checking-checked core p bs ds (Check name asked) grows o (record o { passed = Some asked }) refl refl
     (λ last is. checked-clear p.shown last name asked o is k.0 k.1) s)
-checks-stand table p bs ds name asked grows o now (answered.Met by place back) k s =
-    subst (λ (x : OptimistSays). Standing table p ds (Checking x)) (sym k.2.5)
-    (checking-checked table p bs ds (Check name asked) grows o (record o { met = Some k.2.0; passed = None }) refl refl
+checks-stand core p bs ds name asked grows o now (answered.Met by place back) k s =
+    subst (λ (x : OptimistSays). Standing core p ds (Checking x)) (sym k.2.5)
+    (checking-checked core p bs ds (Check name asked) grows o (record o { met = Some k.2.0; passed = None }) refl refl
     (λ last is. checked-met p.shown last name asked o is k.0 k.2.0 k.2.1 k.2.2) s)
-checks-stand table p bs ds name asked grows o now (answered.NotDeclared index back) k s =
-    subst (λ (x : OptimistSays). Standing table p ds (Checking x)) (sym k.2)
-    (checking-checked table p bs ds (Check name asked) grows o o refl refl (λ last is. checked-undeclared p.shown last name asked o is index k.0) s)
+checks-stand core p bs ds name asked grows o now (answered.NotDeclared index back) k s =
+    subst (λ (x : OptimistSays). Standing core p ds (Checking x)) (sym k.2)
+    (checking-checked core p bs ds (Check name asked) grows o o refl refl (λ last is. checked-undeclared p.shown last name asked o is index k.0) s)

@@ -1,28 +1,26 @@
 -- The end of a run: all passes are closed, and the history follows the script.
-use Rattle.std.proofs.Common.{◌≡◌, ◌≢◌, ℕ, zero, suc, ◌+◌, ◌-◌, ◌<◌, ◌≤◌, ◌==◌, Bool, true, false, IsTrue, List, [], ◌∷◌, ◌++◌, length, map, take, drop}
-use Rattle.std.proofs.Common.{slice_get, get_or, Option, Some, None, refl, sym, ◌∙◌, ap, subst, arith, inl, inr}
-use Rattle.std.specs.List.{All, Contains, enumerate_from, filter, list_any}
-use Rattle.std.proofs.lemmas.Bool.{eq-eqb, false_from_ne_true, eqb-true}
+use Rattle.std.proofs.Common.{◌≡◌, ℕ, zero, suc, ◌+◌, ◌-◌, ◌<◌, ◌≤◌, ◌==◌, Bool, true, false, IsTrue, List, [], ◌∷◌, ◌++◌, length, map, take, drop}
+use Rattle.std.proofs.Common.{slice_get, Some, refl, sym, ◌∙◌, ap, subst, arith, inl, inr}
+use Rattle.std.specs.List.{All, Contains, enumerate_from}
+use Rattle.std.proofs.lemmas.Bool.{eq-eqb, eqb-true}
 use Rattle.std.proofs.lemmas.List.{append-nil, length-map}
 use Rattle.std.proofs.lemmas.List.Elements.{All-contains}
 use Rattle.std.proofs.lemmas.Option.{get_or_from_slice_get, slice_get_within}
 use Rattle.std.proofs.Math.Seq.{take-length}
 use Rattle.atomic_table.specs.Seated.{TableId}
 use Rattle.latch_model.specs.declared.history.Entry.{Entry}
-use Rattle.latch_model.specs.declared.history.Sizes.{Sizes}
 use Rattle.latch_model.proofs.Lists.{Contains-from_In, In, In-filter, In-from_Contains, list_any-In}
 use Rattle.latch_model.proofs.Members.{enumerate_of-In, filter_of-In, get_below, list_any_of}
-use Rattle.script.specs.Follows.{AllMadeBy, Block, Follows, FollowsScript, HasNoOthers, blocks_of, commands_of, entries_of, in_blocks, is_of, is_session_of}
+use Rattle.script.specs.Follows.{AllMadeBy, Block, Follows, FollowsScript, blocks_of, commands_of, entries_of, in_blocks, is_of, is_session_of}
 use Rattle.script.specs.Follows.{opens_in, passed_in, session_of}
 use Rattle.script.specs.Scripts.{IsCommand, IsScript}
 use Rattle.script.specs.declared.command.Command.{Command}
 use Rattle.script.specs.declared.command.Command.TheVariants.{Begin, Wait, Check, Poison, Release, Metrics}
-use Rattle.sequence_core.specs.Says.{AreFresh, DeskState, HasEachPass, fresh_pass}
-use Rattle.sequence_core.proofs.Passes.{IsIdlePass, has_each}
-use Rattle.signal_board.specs.Rule.{ByGiven, IsPrefix, open_count, own, who_of}
+use Rattle.sequence_core.specs.Says.{AreFresh, DeskState, HasEachPass}
+use Rattle.sequence_core.proofs.Passes.{has_each}
+use Rattle.signal_board.specs.Rule.{ByGiven, IsPrefix, own}
 use Rattle.signal_board.specs.Says.{PassSays}
-use Rattle.signal_board.specs.Views.{PassView}
-use Rattle.replay.specs.Running.{FollowsIn, Fresh, Rested, lane_numbers, numbers_from, program_sizes, whos}
+use Rattle.replay.specs.Running.{FollowsIn, Fresh, Rested, lane_numbers, numbers_from, whos}
 use Rattle.replay.proofs.Following.{follows-grown, same_session}
 
 false-true : false ≡ true → ⊥
@@ -167,10 +165,10 @@ module _ (n : ℕ) (passes : List PassSays) (numbered : whos passes ≡ lane_num
       numbers-at 0 n i p.p.who (ap (λ (ws : List ℕ). slice_get ws i) (sym numbered) ∙ map-at (λ (q : PassSays). q.p.who) passes i p at) in
       omega arith
 
-  pub each-pass : (d : DeskState) → d.given ≡ n → All (Rested d.table) passes → HasEachPass d passes
+  pub each-pass : (d : DeskState) → d.given ≡ n → All (Rested d.core.signals) passes → HasEachPass d passes
   each-pass d given rested =
       has_each d passes (count ∙ sym given) (λ i p at.
-      let r = at-of (Rested d.table) passes i p rested at in
+      let r = at-of (Rested d.core.signals) passes i p rested at in
       record { same = r.0; number = number i p at; idle = r.1 })
 
   -- a pass of each number

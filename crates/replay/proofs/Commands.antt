@@ -1,9 +1,7 @@
 -- From one command of a script to the next: a command of another session leaves a session where it is, and its own take it on.
-use Rattle.std.proofs.Common.{◌≡◌, ◌≢◌, ℕ, ◌+◌, ◌&&◌, ◌==◌, Bool, true, false, cond, List, [], ◌∷◌, ◌++◌, length, take, slice_get, Option, Some, None}
+use Rattle.std.proofs.Common.{◌≡◌, ◌≢◌, ℕ, ◌+◌, ◌&&◌, Bool, true, false, List, [], ◌∷◌, ◌++◌, take, slice_get, Option, Some, None}
 use Rattle.std.proofs.Common.{refl, sym, ◌∙◌, ap, subst, ◌⊎◌, inl, inr}
-use Rattle.std.specs.List.{list_any}
 use Rattle.std.proofs.lemmas.Bool.{eqb-true, false_from_ne_true}
-use Rattle.atomic_table.specs.Seated.{TableId}
 use Rattle.latch_model.specs.declared.latch.Latch.{Latch}
 use Rattle.latch_model.specs.declared.latch.Mode.{Mode}
 use Rattle.latch_model.specs.declared.latch.Policy.{Policy}
@@ -14,11 +12,12 @@ use Rattle.script.specs.declared.command.Command.{Command}
 use Rattle.script.specs.declared.command.Command.TheVariants.{Begin, Wait, Check, Poison, Release, Metrics}
 use Rattle.script.proofs.Busy.{same_is, same_self}
 use Rattle.signal_board.specs.Says.{PassSays}
+use Rattle.waiter.specs.Says.{CoreId}
 use Rattle.replay.specs.Blocks.{GrowsBy, IsLiveOf, LiveName, blocks_until, commands_until, new_block, with_more}
 use Rattle.replay.specs.Running.{IsAt, IsLiveAt, Keeps, NextHand, Ran, RunsTo, live_behind, turns_at, turns_of}
-use Rattle.replay.specs.Sessions.{Busy, Checking, Hand, Holding, Idle, Over, Standing, TurnsOf}
+use Rattle.replay.specs.Sessions.{Checking, Hand, Holding, Idle, Over, Standing, TurnsOf}
 use Rattle.replay.proofs.Blocks.{IsOnName, grows_block, opens_block, until_other, until_own}
-use Rattle.replay.proofs.LiveNames.{IsOn, Spares, live-released, live-stays, on_live-is_own, on_other-is_not, opens-live, opens-none_live}
+use Rattle.replay.proofs.LiveNames.{IsOn, live-released, live-stays, on_live-is_own, on_other-is_not, opens-live, opens-none_live}
 
 false-true : false ≡ true → ⊥
 false-true e = cc
@@ -60,14 +59,14 @@ other-live cs s i w c at other (Some k) bs hand l = (
   l.8,
 )
 
-pub at-other : (cs : List Command) (s : IsScript cs) (table : TableId) (w i : ℕ) (pass : PassSays) (live : Option ℕ) (hand : Hand) (c : Command) →
-    slice_get cs i ≡ Some c → is_of cs w c ≡ false → IsAt cs table w i pass live hand → IsAt cs table w (i + 1) pass live hand
-at-other cs s table w i pass live hand c at other a =
+pub at-other : (cs : List Command) (s : IsScript cs) (core : CoreId) (w i : ℕ) (pass : PassSays) (live : Option ℕ) (hand : Hand) (c : Command) →
+    slice_get cs i ≡ Some c → is_of cs w c ≡ false → IsAt cs core w i pass live hand → IsAt cs core w (i + 1) pass live hand
+at-other cs s core w i pass live hand c at other a =
     let same : blocks_until cs w i ≡ blocks_until cs w (i + 1) = sym (until_other cs w i c at other) in
     record {
       board = a.board;
       session = a.session;
-      standing = subst (λ (bs : List Block). Standing table pass.p bs hand) same a.standing;
+      standing = subst (λ (bs : List Block). Standing core pass.p bs hand) same a.standing;
       named = subst (λ (bs : List Block). IsLiveAt cs w (i + 1) live bs hand) same (other-live cs s i w c at other live (blocks_until cs w i) hand a.named);
     }
 
@@ -106,14 +105,14 @@ opens-by cs w i session name mode policy turns latches at own =
 -- ---- a command of its own
 
 -- a session with something in hand has a block that isn't released
-some_block : (table : TableId) (pass : PassSays) (bs : List Block) (hand : Hand) → Standing table pass.p bs hand → hand ≢ Idle →
+some_block : (core : CoreId) (pass : PassSays) (bs : List Block) (hand : Hand) → Standing core pass.p bs hand → hand ≢ Idle →
     (done : List Block) × (last : Block) × (bs ≡ done ++ last ∷ [])
-some_block table pass bs Idle s busy = absurd (busy refl)
-some_block table pass bs (Checking o) s busy = (s.stands.done, s.stands.last, s.stands.blocks)
-some_block table pass bs (Holding g) s busy = (s.stands.done, s.stands.last, s.stands.blocks)
-some_block table pass bs Over s busy = (s.stands.done, s.stands.last, s.stands.blocks)
+some_block core pass bs Idle s busy = absurd (busy refl)
+some_block core pass bs (Checking o) s busy = (s.stands.done, s.stands.last, s.stands.blocks)
+some_block core pass bs (Holding g) s busy = (s.stands.done, s.stands.last, s.stands.blocks)
+some_block core pass bs Over s busy = (s.stands.done, s.stands.last, s.stands.blocks)
 
-module _ (cs : List Command) (s : IsScript cs) (table : TableId) (w i : ℕ) (old new : PassSays) (hand next : Hand) (keeps : Keeps old new) where
+module _ (cs : List Command) (s : IsScript cs) (core : CoreId) (w i : ℕ) (old new : PassSays) (hand next : Hand) (keeps : Keeps old new) where
   abbrev before : List Block
   before = blocks_until cs w i
 
@@ -123,8 +122,8 @@ module _ (cs : List Command) (s : IsScript cs) (table : TableId) (w i : ℕ) (ol
   -- an opening
   opened : (session : ℕ) (name : List ℕ) (mode : Mode) (policy : Policy) (turns : Option ℕ) (latches : List Latch) (live : Option ℕ) (given : Option ℕ) →
       slice_get cs i ≡ Some (Begin session name mode policy turns latches) → is_of cs w (Begin session name mode policy turns latches) ≡ true →
-      Ran table (i + 2) given (Begin session name mode policy turns latches) old hand new next → next ≢ Idle → IsAt cs table w i old live hand →
-      IsAt cs table w (i + 1) new (Some i) next
+      Ran core (i + 2) given (Begin session name mode policy turns latches) old hand new next → next ≢ Idle → IsAt cs core w i old live hand →
+      IsAt cs core w (i + 1) new (Some i) next
   opened session name mode policy turns latches None given at own run busy a =
       let is : session ≡ w = eqb-true session w own in
       let grown = opens-by cs w i session name mode policy turns latches at own in
@@ -169,9 +168,9 @@ module _ (cs : List Command) (s : IsScript cs) (table : TableId) (w i : ℕ) (ol
 
     -- one that leaves it live
     kept : (live : Option ℕ) (given : Option ℕ) → ((n : List ℕ) → opens_for w n c ≡ false) → ((n : List ℕ) → releases n c ≡ false) →
-        (hand ≢ Idle → RunsTo (i + 2) (turns_at cs live) c hand before behind) → Ran table (i + 2) (turns_at cs live) c old hand new next →
+        (hand ≢ Idle → RunsTo (i + 2) (turns_at cs live) c hand before behind) → Ran core (i + 2) (turns_at cs live) c old hand new next →
         (hand ≢ Idle → next ≢ Idle) →
-        IsAt cs table w i old live hand → IsAt cs table w (i + 1) new live next
+        IsAt cs core w i old live hand → IsAt cs core w (i + 1) new live next
     kept None given opens_no releases_no runs run tied a = absurd (none_absurd None refl a.named)
     kept (Some k) given opens_no releases_no runs run tied a =
         let l = a.named in
@@ -187,13 +186,13 @@ module _ (cs : List Command) (s : IsScript cs) (table : TableId) (w i : ℕ) (ol
             l.4,
             l.5,
             live-stays cs s i w c at (Some l.0) opens_no (releases_no l.0) l.6,
-            turns-by cs w i c at own l.3 on (some_block table old before hand a.standing l.8) l.7,
+            turns-by cs w i c at own l.3 on (some_block core old before hand a.standing l.8) l.7,
             tied l.8,
           );
         }
 
     released : (live : Option ℕ) → c ≡ Release name → (hand ≢ Idle → RunsTo (i + 2) (turns_at cs live) c hand before behind) →
-        Ran table (i + 2) (turns_at cs live) c old hand new next → next ≡ Idle → IsAt cs table w i old live hand → IsAt cs table w (i + 1) new None next
+        Ran core (i + 2) (turns_at cs live) c old hand new next → next ≡ Idle → IsAt cs core w i old live hand → IsAt cs core w (i + 1) new None next
     released None is runs run idle a = absurd (none_absurd None refl a.named)
     released (Some k) is runs run idle a =
         let l = a.named in
@@ -209,12 +208,12 @@ module _ (cs : List Command) (s : IsScript cs) (table : TableId) (w i : ℕ) (ol
   turns_there None busy l = absurd (busy l.1)
   turns_there (Some k) busy l = λ done last e. l.7 done last e ∙ ap turns_of (sym l.5)
 
-  idle_none : (live : Option ℕ) → IsAt cs table w i old live hand → (hand ≡ Idle) ⊎ (hand ≢ Idle)
+  idle_none : (live : Option ℕ) → IsAt cs core w i old live hand → (hand ≡ Idle) ⊎ (hand ≢ Idle)
   idle_none None a = inl a.named.1
   idle_none (Some k) a = inr a.named.8
 
-  pub at-own : (c : Command) (live : Option ℕ) → slice_get cs i ≡ Some c → is_of cs w c ≡ true → Ran table (i + 2) (turns_at cs live) c old hand new next →
-      NextHand c hand next → IsAt cs table w i old live hand → IsAt cs table w (i + 1) new (live_behind live i c) next
+  pub at-own : (c : Command) (live : Option ℕ) → slice_get cs i ≡ Some c → is_of cs w c ≡ true → Ran core (i + 2) (turns_at cs live) c old hand new next →
+      NextHand c hand next → IsAt cs core w i old live hand → IsAt cs core w (i + 1) new (live_behind live i c) next
   at-own (Begin session name mode policy turns latches) live at own run tied a =
       opened session name mode policy turns latches live (turns_at cs live) at own run tied a
   at-own (Wait name) None at own run tied a = absurd (none_absurd (Wait name) at own tt name refl None refl a.named)

@@ -1,21 +1,16 @@
 -- The request of the last block ends: in front of its release, or at it.
-use Rattle.std.proofs.Common.{◌≡◌, ℕ, List, [], ◌∷◌, ◌++◌, length, Option, Some, refl, sym, ◌∙◌, ap, subst}
+use Rattle.std.proofs.Common.{◌≡◌, ℕ, List, [], ◌∷◌, ◌++◌, length, Some, refl, sym, ◌∙◌, ap, subst}
 use Rattle.std.proofs.lemmas.List.{append_assoc}
 use Rattle.latch_model.specs.Histories.{Begin, begin_with, entry_of}
-use Rattle.latch_model.specs.declared.history.Cause.{Cause}
 use Rattle.latch_model.specs.declared.history.Entry.{Entry}
-use Rattle.latch_model.specs.declared.history.Fault.{Fault}
-use Rattle.latch_model.specs.declared.history.Grant.{Grant}
-use Rattle.latch_model.specs.declared.latch.Mode.{Mode}
 use Rattle.latch_model.proofs.Growing.{begin_with-append}
 use Rattle.script.specs.Follows.{AllMadeBy, Block, EndEntry, MadeBy, declaration_of, passed_in}
-use Rattle.signal_board.specs.Rule.{IsPrefix, begun_as, entries, open_count}
-use Rattle.signal_board.specs.Says.{LaneSays, PassSays}
+use Rattle.signal_board.specs.Rule.{IsPrefix, begun_as, entries}
+use Rattle.signal_board.specs.Says.{PassSays}
 use Rattle.signal_board.specs.Views.{PassView}
-use Rattle.waiter.specs.Says.{EndingSays, GrantedSays, OptimistSays}
+use Rattle.waiter.specs.Says.{EndingSays, OpenedSays}
 use Rattle.latch_manager.specs.Making.{Began, Finished, Made, end_entry}
-use Rattle.replay.specs.Blocks.{with_more}
-use Rattle.replay.specs.Sessions.{Busy, Checking, EachBegun, Hand, Holding, Idle, IsOver, OpenBlock, Over, OverBy, Standing, Stands, Unreleased, end_of}
+use Rattle.replay.specs.Sessions.{EachBegun, Idle, OpenBlock, Over, OverBy, Standing, end_of}
 use Rattle.replay.proofs.Made.{each_begun-more, made_more}
 use Rattle.replay.proofs.Openings.{opening_begun, opening_declared, opening_each, opening_entries, opening_made, opening_mode, opening_who}
 use Rattle.replay.proofs.Standings.{each_begun-front, each_begun-to, entries-wrote, goes_on-with, made-to}
@@ -25,8 +20,8 @@ abbrev pub ends_with : EndingSays → EndEntry
 ends_with ending = record { id = ending.r.id; grant = ending.grant; cause = ending.r.cause; fault = ending.fault }
 
 -- A request that an opening began is that of the last block.
-abbrev pub opened-is_open : (made : Made) (old new : PassSays) (block : Block) (opened : LaneSays) →
-    Began made old block.mode (declaration_of block) opened new → (bs : List Block) → Standing made.table old.p bs Idle →
+abbrev pub opened-is_open : (made : Made) (old new : PassSays) (block : Block) (opened : OpenedSays) →
+    Began made old block.mode (declaration_of block) opened new → (bs : List Block) → Standing made.core old.p bs Idle →
     OpenBlock new.p (bs ++ block ∷ []) (begun_as opened.r)
 opened-is_open made old new block opened k bs s = record {
   done = bs;
@@ -39,7 +34,7 @@ opened-is_open made old new block opened k bs s = record {
   begun = opening_begun made old new block.mode block opened k bs s;
   mode = opening_mode made old new block.mode block opened k bs s;
   declared = opening_declared made old new block.mode block opened k bs s;
-  session = ap (λ (x : LaneSays). x.r.who) k.opened_is ∙ sym (opening_who made old new block.mode block opened k bs s);
+  session = ap (λ (x : OpenedSays). x.r.who) k.opened_is ∙ sym (opening_who made old new block.mode block opened k bs s);
 }
 
 -- So is one in hand.
@@ -111,7 +106,7 @@ module _ (made : Made) (old new : PassSays) (bs : List Block) (b : Begin) (o : O
       (each_begun-front old.p.shown o.before (entry_of b ∷ []) (subst (EachBegun old.p.shown) o.all_entries o.each)) o.made
 
   -- in front of its release
-  pub ends-over : OverBy o.last.mode o.last ending.grant ending.fault ending.r.cause → Standing made.table new.p bs Over
+  pub ends-over : OverBy o.last.mode o.last ending.grant ending.fault ending.r.cause → Standing made.core new.p bs Over
   ends-over ends = record {
     each = ending_each;
     stands = record {
@@ -133,7 +128,7 @@ module _ (made : Made) (old new : PassSays) (bs : List Block) (b : Begin) (o : O
   }
 
   -- at its release
-  pub ends-idle : MadeBy o.last (passed_in new.p.shown b.id o.last) b e → Standing made.table new.p bs Idle
+  pub ends-idle : MadeBy o.last (passed_in new.p.shown b.id o.last) b e → Standing made.core new.p bs Idle
   ends-idle made_by = record {
     each = ending_each;
     stands =

@@ -1,25 +1,21 @@
 -- At the end a session's entries follow its commands, in what its pass has been shown and in the whole history.
-use Rattle.std.proofs.Common.{◌≡◌, ℕ, ◌<◌, ◌≤◌, ◌==◌, Bool, true, false, cond, IsTrue, List, [], ◌∷◌, ◌++◌, length, Option, Some, None, refl, sym}
+use Rattle.std.proofs.Common.{◌≡◌, ℕ, ◌==◌, cond, List, [], ◌∷◌, refl, sym}
 use Rattle.std.proofs.Common.{◌∙◌, ap, subst, inl, inr}
-use Rattle.std.specs.List.{All, filter, list_any}
-use Rattle.atomic_table.specs.Seated.{TableId}
-use Rattle.latch_model.specs.Histories.{Begin, begin_with, has_begun}
+use Rattle.std.specs.List.{filter}
 use Rattle.latch_model.specs.declared.history.Entry.{Entry}
 use Rattle.latch_model.specs.declared.history.Entry.TheVariants.{Begun, Ended}
-use Rattle.latch_model.specs.declared.latch.Latch.{Latch}
 use Rattle.latch_model.proofs.Growing.{begun_of}
 use Rattle.latch_model.proofs.Lists.{In, list_any-In}
 use Rattle.latch_model.proofs.Members.{filter_of-In}
 use Rattle.std.proofs.lemmas.Bool.{eq-eqb}
 use Rattle.latch_model.specs.Histories.{is_begin}
-use Rattle.script.specs.Follows.{AllMadeBy, Block, Follows, blocks_of, entries_of, passed_in, session_of}
+use Rattle.script.specs.Follows.{AllMadeBy, Follows, blocks_of, entries_of, passed_in, session_of}
 use Rattle.script.specs.declared.command.Command.{Command}
 use Rattle.signal_board.specs.Rule.{IsPrefix, entries, own, who_of}
 use Rattle.signal_board.specs.Views.{PassView}
 use Rattle.signal_board.proofs.Lists.{own_entries}
-use Rattle.replay.specs.Blocks.{blocks_until}
+use Rattle.waiter.specs.Says.{CoreId}
 use Rattle.replay.specs.Sessions.{EachBegun, Idle, Standing}
-use Rattle.replay.proofs.Blocks.{until_all}
 use Rattle.replay.proofs.Standings.{made-to}
 
 pub same_session : (e : Entry) → who_of e ≡ session_of e
@@ -36,9 +32,9 @@ pub own-entries_of : (w : ℕ) (h : List Entry) → entries (own w h) ≡ entrie
 own-entries_of w h = own_entries w h ∙ same_entries w h
 
 -- what the pass has been shown
-pub follows-shown : (table : TableId) (p : PassView) (cs : List Command) → p.mine ≡ own p.who p.shown → Standing table p (blocks_of cs p.who) Idle →
+pub follows-shown : (core : CoreId) (p : PassView) (cs : List Command) → p.mine ≡ own p.who p.shown → Standing core p (blocks_of cs p.who) Idle →
     Follows p.shown p.who cs
-follows-shown table p cs mine s =
+follows-shown core p cs mine s =
     subst (λ (es : List Entry). AllMadeBy (passed_in p.shown) (blocks_of cs p.who) es) (ap entries mine ∙ own-entries_of p.who p.shown) s.stands
 
 -- ---- the whole history

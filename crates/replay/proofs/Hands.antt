@@ -1,8 +1,8 @@
 -- What a session has in hand, as its block gets one more command: which commands leave it as it is, and what a poisoning, a check, a wait and
 -- a release make of it.
-use Rattle.std.proofs.Common.{◌≡◌, ℕ, ◌||◌, Bool, true, false, List, [], ◌∷◌, ◌++◌, Option, Some, None, refl, sym, ◌∙◌, ap, subst}
+use Rattle.std.proofs.Common.{◌≡◌, ℕ, ◌||◌, Bool, true, false, List, ◌++◌, Option, refl, sym, ◌∙◌, ap, subst}
 use Rattle.std.specs.Bool.{MatchBool}
-use Rattle.latch_model.specs.Histories.{Begin, HeldLatch, begin_with, in_front, latches_held}
+use Rattle.latch_model.specs.Histories.{Begin, HeldLatch, in_front, latches_held}
 use Rattle.latch_model.specs.declared.history.Cause.{Cause}
 use Rattle.latch_model.specs.declared.history.Cause.TheVariants.{None as no_cause, Called, From}
 use Rattle.latch_model.specs.declared.history.Entry.{Entry}
@@ -14,7 +14,7 @@ use Rattle.latch_model.specs.declared.latch.Latch.{Latch}
 use Rattle.latch_model.specs.declared.latch.Mode.{Mode}
 use Rattle.latch_model.specs.declared.latch.Mode.TheVariants.{Acquire, Optimistic, Look}
 use Rattle.latch_model.proofs.Growing.{begin_with-append, shot-append}
-use Rattle.script.specs.Follows.{AnyCause, Block, CauseOfAnother, EndEntry, EndsAs, MadeBy, NoCause, OwnCause, WaitEnds, called_cause, declaration_of}
+use Rattle.script.specs.Follows.{AnyCause, Block, CauseOfAnother, EndEntry, EndsAs, MadeBy, NoCause, OwnCause, WaitEnds, called_cause}
 use Rattle.script.specs.Follows.{has_wait, is_called, is_early, is_poison, is_wait, passed_behind, passed_grant, passed_in}
 use Rattle.script.specs.declared.command.Command.{Command}
 use Rattle.signal_board.specs.Rule.{begun_as}
@@ -22,7 +22,7 @@ use Rattle.signal_board.specs.Says.{first_cause}
 use Rattle.waiter.specs.Says.{GrantedSays, OptimistSays}
 use Rattle.replay.specs.Blocks.{with_more}
 use Rattle.replay.specs.Sessions.{FailedWait, HeldCause, IsChecking, IsHolding, IsOver, OverBy}
-use Rattle.replay.proofs.Made.{called-more, early-first, early-kept, passed-grown, passed-more, waits-more}
+use Rattle.replay.proofs.Made.{called-more, early-kept, passed-grown, passed-more, waits-more}
 
 or_false : (x y : Bool) → y ≡ false → (x || y) ≡ x
 or_false true y e = refl

@@ -1,15 +1,11 @@
 -- What the blocks of a session made stays what they made, however the history goes on.
 use Rattle.std.proofs.Common.{◌≡◌, ℕ, ◌||◌, Bool, true, false, not, cond, List, [], ◌∷◌, ◌++◌, Option, Some, None, refl, sym, ◌∙◌, ap, subst}
-use Rattle.std.specs.Bool.{MatchBool}
 use Rattle.std.specs.List.{list_any, take_while}
 use Rattle.std.proofs.lemmas.List.Folds.{list_any-append}
 use Rattle.std.proofs.lemmas.List.Sums.{take_while-cons}
 use Rattle.latch_model.specs.Histories.{Begin, HeldLatch, begin_with, in_front, latches_held}
-use Rattle.latch_model.specs.declared.history.Cause.{Cause}
 use Rattle.latch_model.specs.declared.history.Entry.{Entry}
 use Rattle.latch_model.specs.declared.history.Entry.TheVariants.{Begun, Ended}
-use Rattle.latch_model.specs.declared.history.Fault.{Fault}
-use Rattle.latch_model.specs.declared.history.Grant.{Grant}
 use Rattle.latch_model.specs.declared.latch.Latch.{Latch}
 use Rattle.latch_model.proofs.Growing.{in_front-append, begin_with-append}
 use Rattle.script.specs.Follows.{AllMadeBy, Block, EndEntry, MadeBy, has_wait, is_called, is_early, is_poison, is_wait, passed_behind, passed_from, passed_in}

@@ -1,39 +1,27 @@
 -- A session that opens a request: what it has in hand then, whether it checks, waits and is granted, or fails.
-use Rattle.std.proofs.Common.{◌≡◌, ◌≢◌, ℕ, ◌+◌, ◌≤◌, true, false, List, [], ◌∷◌, ◌++◌, length, Option, Some, None, refl, sym, ◌∙◌, ap, subst}
-use Rattle.std.proofs.lemmas.List.{append_assoc}
-use Rattle.atomic_table.specs.Seated.{TableId}
-use Rattle.latch_model.specs.Declaration.{Declaration}
+use Rattle.std.proofs.Common.{◌≡◌, ℕ, List, [], ◌∷◌, ◌++◌, length, Option, Some, None, refl, sym, ◌∙◌, ap, subst}
 use Rattle.latch_model.specs.Histories.{Begin, begin_with, entry_of, shot}
-use Rattle.latch_model.specs.declared.history.Cause.{Cause}
-use Rattle.latch_model.specs.declared.history.Cause.TheVariants.{None as no_cause, Called, From}
+use Rattle.latch_model.specs.declared.history.Cause.TheVariants.{None as no_cause}
 use Rattle.latch_model.specs.declared.history.Entry.{Entry}
-use Rattle.latch_model.specs.declared.history.Fault.{Fault}
-use Rattle.latch_model.specs.declared.history.Fault.TheVariants.{None as no_fault, Poisoned, Cancelled}
-use Rattle.latch_model.specs.declared.history.Grant.{Grant}
-use Rattle.latch_model.specs.declared.history.Grant.TheVariants.{Never, Waited}
 use Rattle.latch_model.specs.declared.latch.Latch.{Latch}
 use Rattle.latch_model.specs.declared.latch.Mode.{Mode}
-use Rattle.latch_model.specs.declared.latch.Mode.TheVariants.{Acquire, Optimistic, Look}
+use Rattle.latch_model.specs.declared.latch.Mode.TheVariants.{Optimistic}
 use Rattle.latch_model.specs.declared.latch.Policy.{Policy}
-use Rattle.latch_model.specs.declared.latch.Policy.TheVariants.{Wait, Error}
-use Rattle.script.specs.Follows.{AllMadeBy, AnyCause, Block, CauseOfAnother, EndEntry, LookEnds, declaration_of, passed_in}
-use Rattle.signal_board.specs.Rule.{begun_as, entries, open_count}
-use Rattle.signal_board.specs.Says.{LaneSays, PassSays, shown_all, shown_to}
-use Rattle.signal_board.specs.Steps.{new_request, wrote}
-use Rattle.signal_board.specs.Views.{PassView, RequestView}
+use Rattle.script.specs.Follows.{AllMadeBy, Block, declaration_of, passed_in}
+use Rattle.signal_board.specs.Rule.{begun_as, entries}
+use Rattle.signal_board.specs.Says.{PassSays}
 use Rattle.signal_board.proofs.Laws.{new_begun}
-use Rattle.waiter.specs.Says.{GrantedSays, OptimistSays}
-use Rattle.latch_manager.specs.Making.{Adds, Began, Finished, Made, end_entry, next_begin, unpolled}
-use Rattle.latch_manager.specs.Waiting.{CauseAfter, CauseFound, IsFound, StillWaits, WaitGrants}
+use Rattle.waiter.specs.Says.{OpenedSays}
+use Rattle.latch_manager.specs.Making.{Began, Made, next_begin}
 use Rattle.replay.specs.Blocks.{new_block}
-use Rattle.replay.specs.Sessions.{Busy, Checking, EachBegun, Hand, HandGiven, HeldCause, Holding, Idle, IsChecking, IsHolding, IsOver, Over, OverBy, Standing}
-use Rattle.replay.specs.Sessions.{Stands, Unreleased, end_of}
+use Rattle.replay.specs.Sessions.{Busy, Checking, EachBegun, Hand, Idle, Standing}
+use Rattle.replay.specs.Sessions.{Unreleased}
 use Rattle.replay.proofs.Made.{each_begun-more}
-use Rattle.replay.proofs.Standings.{each_begun-front, each_begun-to, entries-wrote, goes_on-with, made-to}
+use Rattle.replay.proofs.Standings.{each_begun-to, entries-wrote, goes_on-with, made-to}
 
 -- The entries that were there, and what a request of an opening adds: its begin alone.
-module _ (made : Made) (old new : PassSays) (mode : Mode) (block : Block) (opened : LaneSays) (k : Began made old mode (declaration_of block) opened new)
-    (bs : List Block) (s : Standing made.table old.p bs Idle) where
+module _ (made : Made) (old new : PassSays) (mode : Mode) (block : Block) (opened : OpenedSays) (k : Began made old mode (declaration_of block) opened new)
+    (bs : List Block) (s : Standing made.core old.p bs Idle) where
   abbrev begun : Begin
   begun = next_begin k.log old.p.who mode (declaration_of block)
 
@@ -51,12 +39,12 @@ module _ (made : Made) (old new : PassSays) (mode : Mode) (block : Block) (opene
   opening_entries =
       ap (λ (x : PassSays). entries x.p.mine) k.adds.pass
       ∙ (entries-wrote old.p (length k.log) (entry_of begun)
-      ∙ ap (λ (x : LaneSays). entries old.p.mine ++ entry_of (begun_as x.r) ∷ []) (sym k.opened_is))
+      ∙ ap (λ (x : OpenedSays). entries old.p.mine ++ entry_of (begun_as x.r) ∷ []) (sym k.opened_is))
 
   -- the request
   pub opening_begun : begin_with new.p.shown opened.r.id ≡ Some (begun_as opened.r)
   opening_begun =
-      subst (λ (x : LaneSays). begin_with new.p.shown x.r.id ≡ Some (begun_as x.r)) (sym k.opened_is)
+      subst (λ (x : OpenedSays). begin_with new.p.shown x.r.id ≡ Some (begun_as x.r)) (sym k.opened_is)
       (subst
       (λ (h : List Entry). begin_with h begun.id
       ≡ Some begun)
@@ -64,16 +52,16 @@ module _ (made : Made) (old new : PassSays) (mode : Mode) (block : Block) (opene
 
   pub opening_shot : opened.r.shot ≡ shot new.p.shown opened.r.id
   opening_shot =
-      subst (λ (x : LaneSays). x.r.shot ≡ shot new.p.shown x.r.id) (sym k.opened_is) (ap (λ (h : List Entry). shot h begun.id) (sym opening_shown))
+      subst (λ (x : OpenedSays). x.r.shot ≡ shot new.p.shown x.r.id) (sym k.opened_is) (ap (λ (h : List Entry). shot h begun.id) (sym opening_shown))
 
   pub opening_mode : opened.r.mode ≡ mode
-  opening_mode = ap (λ (x : LaneSays). x.r.mode) k.opened_is
+  opening_mode = ap (λ (x : OpenedSays). x.r.mode) k.opened_is
 
   pub opening_declared : opened.r.request ≡ declaration_of block
-  opening_declared = ap (λ (x : LaneSays). x.r.request) k.opened_is
+  opening_declared = ap (λ (x : OpenedSays). x.r.request) k.opened_is
 
   pub opening_cause : opened.r.cause ≡ no_cause
-  opening_cause = ap (λ (x : LaneSays). x.r.cause) k.opened_is
+  opening_cause = ap (λ (x : OpenedSays). x.r.cause) k.opened_is
 
   -- what stood in front
   pub opening_made : AllMadeBy (passed_in new.p.shown) bs (entries old.p.mine)
@@ -106,16 +94,16 @@ module _ (made : Made) (old new : PassSays) (mode : Mode) (block : Block) (opene
   }
 
 -- An optimistic request is opened.
-pub opens_checking : (made : Made) (old new : PassSays) (line : ℕ) (policy : Policy) (turns : Option ℕ) (latches : List Latch) (opened : LaneSays) →
+pub opens_checking : (made : Made) (old new : PassSays) (line : ℕ) (policy : Policy) (turns : Option ℕ) (latches : List Latch) (opened : OpenedSays) →
     Began made old Optimistic (declaration_of (new_block line Optimistic policy turns latches)) opened new → (bs : List Block)
-    → Standing made.table old.p bs Idle →
-    Standing made.table new.p (bs ++ new_block line Optimistic policy turns latches ∷ [])
-    (Checking (record { table = opened.table; r = opened.r; met = None; passed = None }))
+    → Standing made.core old.p bs Idle →
+    Standing made.core new.p (bs ++ new_block line Optimistic policy turns latches ∷ [])
+    (Checking (record { core = opened.core; r = opened.r; met = None; passed = None }))
 opens_checking made old new line policy turns latches opened k bs s =
     let block : Block = new_block line Optimistic policy turns latches in
     record {
       each = opening_each made old new Optimistic block opened k bs s;
-      stands = opening_busy made old new Optimistic block opened k bs s (Checking (record { table = opened.table; r = opened.r; met = None; passed = None })) (
+      stands = opening_busy made old new Optimistic block opened k bs s (Checking (record { core = opened.core; r = opened.r; met = None; passed = None })) (
         record {
           begun = opening_begun made old new Optimistic block opened k bs s;
           mode = refl;
@@ -129,7 +117,7 @@ opens_checking made old new line policy turns latches opened k bs s =
         refl,
       );
       given = (
-        ap (λ (x : LaneSays). x.table) k.opened_is,
-        ap (λ (x : LaneSays). x.r.who) k.opened_is ∙ sym (opening_who made old new Optimistic block opened k bs s),
+        ap (λ (x : OpenedSays). x.core) k.opened_is,
+        ap (λ (x : OpenedSays). x.r.who) k.opened_is ∙ sym (opening_who made old new Optimistic block opened k bs s),
       );
     }

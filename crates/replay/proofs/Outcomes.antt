@@ -1,29 +1,24 @@
 -- What waits that failed leave of a session, by their faults.
-use Rattle.std.proofs.Common.{◌≡◌, ◌≢◌, ℕ, ◌+◌, ◌-◌, ◌^◌, ◌<◌, ◌≤◌, ◌⊎◌, min, true, false, List, [], ◌∷◌, ◌++◌, Option, Some, None, refl, sym, ◌∙◌}
-use Rattle.std.proofs.Common.{ap, subst, arith, inl, inr}
-use Rattle.latch_model.specs.declared.history.Cause.{Cause}
+use Rattle.std.proofs.Common.{◌≡◌, ℕ, true, false, List, [], ◌∷◌, ◌++◌, Option, Some, None, sym, ◌∙◌}
+use Rattle.std.proofs.Common.{ap, subst, arith}
 use Rattle.latch_model.specs.declared.history.Fault.{Fault}
 use Rattle.latch_model.specs.declared.history.Fault.TheVariants.{None as no_fault, Poisoned, Cancelled}
 use Rattle.latch_model.specs.declared.history.Grant.{Grant}
 use Rattle.latch_model.specs.declared.history.Grant.TheVariants.{Never, Waited}
 use Rattle.latch_model.specs.declared.latch.Latch.{Latch}
-use Rattle.latch_model.specs.declared.latch.Mode.{Mode}
 use Rattle.latch_model.specs.declared.latch.Mode.TheVariants.{Acquire, Look}
 use Rattle.latch_model.specs.declared.latch.Policy.{Policy}
-use Rattle.latch_model.specs.declared.latch.Policy.TheVariants.{Error}
-use Rattle.script.specs.Follows.{Block, CauseOfAnother, NoCause, WaitEnds, declaration_of, is_poison, is_wait}
+use Rattle.script.specs.Follows.{Block, CauseOfAnother, NoCause, declaration_of, is_poison, is_wait}
 use Rattle.script.specs.declared.command.Command.{Command}
-use Rattle.signal_board.specs.Rule.{begun_as, entries}
-use Rattle.signal_board.specs.Says.{LaneSays, PassSays}
-use Rattle.signal_board.specs.Views.{RequestView}
-use Rattle.waiter.specs.Says.{EndingSays, GrantedSays, OptimistSays, WaitingSays, Unpolled}
+use Rattle.signal_board.specs.Rule.{begun_as}
+use Rattle.signal_board.specs.Says.{PassSays}
+use Rattle.waiter.specs.Says.{EndingSays, GrantedSays, OpenedSays, OptimistSays, Unpolled, WaitingSays}
 use Rattle.waiter.specs.declared.mark.Mark.{Mark}
 use Rattle.latch_manager.specs.Making.{Began, Finished, Made, done_with, unpolled}
 use Rattle.latch_manager.specs.Patience.{Refused}
-use Rattle.latch_manager.specs.Waiting.{AtLimit, StillWaits, WaitGrants, WaitMeets, WaitStops}
+use Rattle.latch_manager.specs.Waiting.{AtLimit, WaitGrants, WaitMeets, WaitStops}
 use Rattle.replay.specs.Blocks.{GrowsBy, new_block}
-use Rattle.replay.specs.Sessions.{Checking, Hand, Idle, Over, OverBy, PatienceOf, Standing}
-use Rattle.replay.proofs.Endings.{ends_with}
+use Rattle.replay.specs.Sessions.{Checking, Idle, Over, OverBy, PatienceOf, Standing}
 use Rattle.replay.proofs.Turns.{opened-failed, opened-found, opened-over}
 use Rattle.replay.proofs.Waits.{turned-failed, turned-stopped}
 
@@ -38,13 +33,13 @@ cancelled_after (Some m) before now limit n of refused at = ap Some (sym (at m o
 -- ---- an opening whose wait failed
 
 module _ (made : Made) (old mid new : PassSays) (line : ℕ) (policy : Policy) (turns : Option ℕ) (latches : List Latch) (bs : List Block)
-    (s : Standing made.table old.p bs Idle) (opened : LaneSays) (ending : EndingSays) (f : Finished made mid ending new) where
+    (s : Standing made.core old.p bs Idle) (opened : OpenedSays) (ending : EndingSays) (f : Finished made mid ending new) where
   module _ (k : Began made old Acquire (declaration_of (new_block line Acquire policy turns latches)) opened mid) where
     abbrev block : Block
     block = new_block line Acquire policy turns latches
 
     pub acquired-failed : (mark : Mark) → WaitMeets (unpolled opened) mark ending →
-        Standing made.table new.p (bs ++ new_block line Acquire policy turns latches ∷ []) Over
+        Standing made.core new.p (bs ++ new_block line Acquire policy turns latches ∷ []) Over
     acquired-failed mark w =
         opened-over made old mid new block opened k bs s ending w.r w.still (ap (λ (x : EndingSays). begun_as x.r) w.ending_is)
         (ap (λ (x : EndingSays). x.r.cause) w.ending_is) f
@@ -60,7 +55,7 @@ module _ (made : Made) (old mid new : PassSays) (line : ℕ) (policy : Policy) (
             (subst (λ (x : Fault). OverBy Acquire block Never x ending.r.cause) (sym g) none)
 
     pub acquired-stopped : (n : ℕ) (limit : Option ℕ) → WaitStops (unpolled opened) n limit ending → turns ≡ Some n →
-        Standing made.table new.p (bs ++ new_block line Acquire policy turns latches ∷ []) Over
+        Standing made.core new.p (bs ++ new_block line Acquire policy turns latches ∷ []) Over
     acquired-stopped n limit w is =
         opened-over made old mid new block opened k bs s ending w.r w.still (ap (λ (x : EndingSays). begun_as x.r) w.ending_is)
         (ap (λ (x : EndingSays). x.r.cause) w.ending_is) f
@@ -80,7 +75,7 @@ module _ (made : Made) (old mid new : PassSays) (line : ℕ) (policy : Policy) (
     look = new_block line Look policy turns latches
 
     pub looked-failed : (mark : Mark) → WaitMeets (unpolled opened) mark ending →
-        Standing made.table new.p (bs ++ new_block line Look policy turns latches ∷ []) Over
+        Standing made.core new.p (bs ++ new_block line Look policy turns latches ∷ []) Over
     looked-failed mark w =
         opened-over made old mid new look opened k bs s ending w.r w.still (ap (λ (x : EndingSays). begun_as x.r) w.ending_is)
         (ap (λ (x : EndingSays). x.r.cause) w.ending_is) f
@@ -96,7 +91,7 @@ module _ (made : Made) (old mid new : PassSays) (line : ℕ) (policy : Policy) (
             (subst (λ (x : Fault). OverBy Look look Never x ending.r.cause) (sym g) none)
 
     pub looked-stopped : (n : ℕ) (limit : Option ℕ) → WaitStops (unpolled opened) n limit ending → turns ≡ Some n →
-        Standing made.table new.p (bs ++ new_block line Look policy turns latches ∷ []) Over
+        Standing made.core new.p (bs ++ new_block line Look policy turns latches ∷ []) Over
     looked-stopped n limit w is =
         opened-over made old mid new look opened k bs s ending w.r w.still (ap (λ (x : EndingSays). begun_as x.r) w.ending_is)
         (ap (λ (x : EndingSays). x.r.cause) w.ending_is) f
@@ -113,7 +108,7 @@ module _ (made : Made) (old mid new : PassSays) (line : ℕ) (policy : Policy) (
 
     -- a look that was granted is ended at once
     pub looked-over : (g : GrantedSays) → WaitGrants (unpolled opened) g → ending ≡ done_with g →
-        Standing made.table new.p (bs ++ new_block line Look policy turns latches ∷ []) Over
+        Standing made.core new.p (bs ++ new_block line Look policy turns latches ∷ []) Over
     looked-over g w is =
         opened-over made old mid new look opened k bs s ending w.r w.still begun cause f
         (by ending.grant ending.fault (ap (λ (x : EndingSays). x.grant) is ∙ ap (λ (x : GrantedSays). x.grant) w.granted_is)
@@ -133,20 +128,20 @@ module _ (made : Made) (old mid new : PassSays) (line : ℕ) (policy : Policy) (
 -- ---- an optimistic request that turned to waiting, whose wait failed
 
 module _ (made : Made) (old new : PassSays) (bs ds : List Block) (c : Command) (grows : GrowsBy c bs ds) (waits : is_wait c ≡ true)
-    (quiet : is_poison c ≡ false) (o : OptimistSays) (s : Standing made.table old.p bs (Checking o)) (ending : EndingSays)
+    (quiet : is_poison c ≡ false) (o : OptimistSays) (s : Standing made.core old.p bs (Checking o)) (ending : EndingSays)
     (f : Finished made old ending new) where
   abbrev came : WaitingSays
-  came = record { table = o.table; r = o.r; turns = 0; last = Unpolled }
+  came = record { core = o.core; r = o.r; turns = 0; last = Unpolled }
 
-  pub turned-over_failed : (mark : Mark) → WaitMeets (record { table = o.table; r = o.r; turns = 0; last = Unpolled }) mark ending
-      → Standing made.table new.p ds Over
+  pub turned-over_failed : (mark : Mark) → WaitMeets (record { core = o.core; r = o.r; turns = 0; last = Unpolled }) mark ending
+      → Standing made.core new.p ds Over
   turned-over_failed mark w =
       turned-failed made old new bs ds c grows waits quiet o s ending w.r w.still (ap (λ (x : EndingSays). begun_as x.r) w.ending_is)
       (ap (λ (x : EndingSays). x.r.cause) w.ending_is) f mark.by (ap (λ (x : EndingSays). x.grant) w.ending_is)
       (ap (λ (x : EndingSays). x.fault) w.ending_is) w.policy
 
-  pub turned-over_stopped : (n : ℕ) (limit : Option ℕ) → WaitStops (record { table = o.table; r = o.r; turns = 0; last = Unpolled }) n limit ending
-      → s.stands.last.turns ≡ Some n → Standing made.table new.p ds Over
+  pub turned-over_stopped : (n : ℕ) (limit : Option ℕ) → WaitStops (record { core = o.core; r = o.r; turns = 0; last = Unpolled }) n limit ending
+      → s.stands.last.turns ≡ Some n → Standing made.core new.p ds Over
   turned-over_stopped n limit w is =
       turned-stopped made old new bs ds c grows waits quiet o s ending w.r w.still (ap (λ (x : EndingSays). begun_as x.r) w.ending_is)
       (ap (λ (x : EndingSays). x.r.cause) w.ending_is) f n (ap (λ (x : EndingSays). x.grant) w.ending_is)

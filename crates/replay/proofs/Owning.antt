@@ -1,10 +1,8 @@
 -- By its live name a session tells which commands are its own; and what a script says of each.
-use Rattle.std.proofs.Common.{◌≡◌, ◌≢◌, ℕ, zero, suc, ◌≤◌, ◌==◌, Bool, true, false, List, [], ◌∷◌, length, take, slice_get, Option, Some, None, IfSome}
+use Rattle.std.proofs.Common.{◌≡◌, ℕ, zero, suc, ◌≤◌, Bool, true, false, List, [], ◌∷◌, length, take, slice_get, Option, Some, None, IfSome}
 use Rattle.std.proofs.Common.{refl, sym, ◌∙◌, ap, subst, inl, inr}
-use Rattle.std.specs.List.{All, Contains}
 use Rattle.std.proofs.lemmas.List.Elements.{All-contains}
 use Rattle.std.proofs.Math.Seq.{take-length}
-use Rattle.atomic_table.specs.Seated.{TableId}
 use Rattle.latch_model.proofs.Lists.{Contains-from_In, In}
 use Rattle.script.specs.Commands.{same_name}
 use Rattle.script.specs.Follows.{blocks_of, is_of}
@@ -13,11 +11,11 @@ use Rattle.script.specs.declared.limits.TheConstants.{TURN_LIMIT}
 use Rattle.script.specs.declared.command.Command.{Command}
 use Rattle.script.specs.declared.command.Command.TheVariants.{Begin, Wait, Check, Poison, Release, Metrics}
 use Rattle.script.proofs.Busy.{same_is, same_self}
-use Rattle.signal_board.specs.Rule.{open_count}
 use Rattle.signal_board.specs.Says.{PassSays}
-use Rattle.replay.specs.Blocks.{IsLiveOf, LiveName, blocks_until}
+use Rattle.waiter.specs.Says.{CoreId}
+use Rattle.replay.specs.Blocks.{IsLiveOf, LiveName}
 use Rattle.replay.specs.Running.{Fresh, IsAt, IsFit, IsLiveAt, SomeTurns, is_live_name, is_own, opened_by, turns_at, turns_of}
-use Rattle.replay.specs.Sessions.{Hand, HandGiven, Idle, Standing}
+use Rattle.replay.specs.Sessions.{Hand, Idle, Standing}
 use Rattle.replay.proofs.Blocks.{until_all}
 use Rattle.replay.proofs.LiveNames.{IsOn, live-start, none_live-at_end, on_live-is_own, on_other-is_not}
 
@@ -37,14 +35,14 @@ module _ (cs : List Command) (s : IsScript cs) (i w : ℕ) (c : Command) (at : s
           e ∙ sym (on_other-is_not cs s i w c at name on
           (λ h. false-true (sym e ∙ (ap (λ (n : List ℕ). same_name l.0 n) (l.6.1 name h) ∙ same_self l.0))))
 
-pub own-is : (cs : List Command) → IsScript cs → (i w : ℕ) (c : Command) → slice_get cs i ≡ Some c → (table : TableId) (pass : PassSays) (live : Option ℕ)
-    (hand : Hand) → IsAt cs table w i pass live hand → is_own cs live w c ≡ is_of cs w c
-own-is cs s i w (Begin session name mode policy turns latches) at table pass live hand a = refl
-own-is cs s i w (Wait name) at table pass live hand a = named cs s i w (Wait name) at name refl live _ hand a.named
-own-is cs s i w (Check name latches) at table pass live hand a = named cs s i w (Check name latches) at name refl live _ hand a.named
-own-is cs s i w (Poison name) at table pass live hand a = named cs s i w (Poison name) at name refl live _ hand a.named
-own-is cs s i w (Release name) at table pass live hand a = named cs s i w (Release name) at name refl live _ hand a.named
-own-is cs s i w Metrics at table pass live hand a = refl
+pub own-is : (cs : List Command) → IsScript cs → (i w : ℕ) (c : Command) → slice_get cs i ≡ Some c → (core : CoreId) (pass : PassSays) (live : Option ℕ)
+    (hand : Hand) → IsAt cs core w i pass live hand → is_own cs live w c ≡ is_of cs w c
+own-is cs s i w (Begin session name mode policy turns latches) at core pass live hand a = refl
+own-is cs s i w (Wait name) at core pass live hand a = named cs s i w (Wait name) at name refl live _ hand a.named
+own-is cs s i w (Check name latches) at core pass live hand a = named cs s i w (Check name latches) at name refl live _ hand a.named
+own-is cs s i w (Poison name) at core pass live hand a = named cs s i w (Poison name) at name refl live _ hand a.named
+own-is cs s i w (Release name) at core pass live hand a = named cs s i w (Release name) at name refl live _ hand a.named
+own-is cs s i w Metrics at core pass live hand a = refl
 
 -- ---- what a script says of its commands
 
@@ -86,26 +84,26 @@ some-turns cs s (Some k) = turns_fit cs s k (slice_get cs k) refl
 
 -- ---- the first command and the end
 
-pub at-start : (cs : List Command) (table : TableId) (pass : PassSays) → Fresh table pass → IsAt cs table pass.p.who 0 pass None Idle
-at-start cs table pass f = record {
+pub at-start : (cs : List Command) (core : CoreId) (pass : PassSays) → Fresh core.signals pass → IsAt cs core pass.p.who 0 pass None Idle
+at-start cs core pass f = record {
   board = f.0;
   session = refl;
   standing = start pass.p.shown pass.p.mine f.1 f.2;
   named = (live-start cs pass.p.who, refl);
 }
   where
-    start : (shown mine : _) → shown ≡ [] → mine ≡ [] → Standing table (record pass.p { shown = shown; mine = mine }) [] Idle
-    start shown mine a b = subst (λ x. Standing table (record pass.p { shown = shown; mine = x }) [] Idle) (sym b)
+    start : (shown mine : _) → shown ≡ [] → mine ≡ [] → Standing core (record pass.p { shown = shown; mine = mine }) [] Idle
+    start shown mine a b = subst (λ x. Standing core (record pass.p { shown = shown; mine = x }) [] Idle) (sym b)
         record { each = tt; stands = tt; given = refl }
 
-pub idle-at_end : (cs : List Command) → IsScript cs → (table : TableId) (w : ℕ) (pass : PassSays) (live : Option ℕ) (hand : Hand) →
-    IsAt cs table w (length cs) pass live hand → hand ≡ Idle
-idle-at_end cs s table w pass None hand a = a.named.1
-idle-at_end cs s table w pass (Some k) hand a =
+pub idle-at_end : (cs : List Command) → IsScript cs → (core : CoreId) (w : ℕ) (pass : PassSays) (live : Option ℕ) (hand : Hand) →
+    IsAt cs core w (length cs) pass live hand → hand ≡ Idle
+idle-at_end cs s core w pass None hand a = a.named.1
+idle-at_end cs s core w pass (Some k) hand a =
     absurd (none_live-at_end cs s w a.named.0 (subst (λ (xs : List Command). LiveName xs w (Some a.named.0)) (take-length cs) a.named.6))
 
-pub stands-at_end : (cs : List Command) → IsScript cs → (table : TableId) (w : ℕ) (pass : PassSays) (live : Option ℕ) (hand : Hand) →
-    IsAt cs table w (length cs) pass live hand → Standing table pass.p (blocks_of cs w) Idle
-stands-at_end cs s table w pass live hand a =
-    subst (λ (h : Hand). Standing table pass.p (blocks_of cs w) h) (idle-at_end cs s table w pass live hand a)
-    (subst (λ bs. Standing table pass.p bs hand) (until_all cs w) a.standing)
+pub stands-at_end : (cs : List Command) → IsScript cs → (core : CoreId) (w : ℕ) (pass : PassSays) (live : Option ℕ) (hand : Hand) →
+    IsAt cs core w (length cs) pass live hand → Standing core pass.p (blocks_of cs w) Idle
+stands-at_end cs s core w pass live hand a =
+    subst (λ (h : Hand). Standing core pass.p (blocks_of cs w) h) (idle-at_end cs s core w pass live hand a)
+    (subst (λ bs. Standing core pass.p bs hand) (until_all cs w) a.standing)

@@ -16,7 +16,7 @@ module _ (made : Made) (old : PassSays) (mode : Mode) (request : Declaration) (f
     (d : Declined made old mode request fault new) where
   -- the desk of which the refusal speaks
   refuser : DeskState
-  refuser = record { table = made.table; sizes = made.sizes; log = d.log; given = d.given }
+  refuser = record { core = made.core; sizes = made.sizes; log = d.log; given = d.given; free = d.free }
 
   -- there was place for its latches
   pub declined_at_place : made.sizes ≡ program_sizes → length request.latches ≤ 16 → IsSome (fault_of fault)

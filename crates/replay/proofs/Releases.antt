@@ -1,19 +1,18 @@
 -- The name of the last block is released.
-use Rattle.std.proofs.Common.{◌≡◌, ℕ, ◌||◌, Bool, true, false, List, [], ◌∷◌, ◌++◌, Option, Some, None, refl, sym, ◌∙◌, ap, subst}
-use Rattle.atomic_table.specs.Seated.{TableId}
-use Rattle.latch_model.specs.Histories.{Begin, HeldLatch, entry_of}
+use Rattle.std.proofs.Common.{◌≡◌, false, List, [], ◌∷◌, ◌++◌, Option, refl, sym, ◌∙◌, ap, subst}
+use Rattle.latch_model.specs.Histories.{HeldLatch, entry_of}
 use Rattle.latch_model.specs.declared.history.Entry.{Entry}
 use Rattle.latch_model.specs.declared.history.Fault.TheVariants.{None as no_fault}
 use Rattle.latch_model.specs.declared.history.Grant.{Grant}
 use Rattle.latch_model.specs.declared.latch.Latch.{Latch}
 use Rattle.script.specs.Follows.{AllMadeBy, Block, MadeBy, is_poison, is_wait, passed_behind, passed_grant, passed_in}
 use Rattle.script.specs.declared.command.Command.{Command}
-use Rattle.signal_board.specs.Rule.{begun_as, entries}
+use Rattle.signal_board.specs.Rule.{begun_as}
 use Rattle.signal_board.specs.Says.{PassSays}
 use Rattle.signal_board.specs.Views.{PassView}
-use Rattle.waiter.specs.Says.{EndingSays, GrantedSays, OptimistSays}
+use Rattle.waiter.specs.Says.{CoreId, EndingSays, GrantedSays, OptimistSays}
 use Rattle.latch_manager.specs.Making.{Finished, Made}
-use Rattle.replay.specs.Blocks.{GrowsBy, with_more}
+use Rattle.replay.specs.Blocks.{GrowsBy}
 use Rattle.replay.specs.Sessions.{Checking, Holding, Idle, IsChecking, Over, Standing, end_of}
 use Rattle.replay.proofs.Endings.{ends-idle, goes_on}
 use Rattle.replay.proofs.Hands.{checking-ends, checking-grown, holding-ends, over-ends}
@@ -22,36 +21,36 @@ use Rattle.replay.proofs.Turns.{checking-is_open, checking-stays, holding-is_ope
 
 -- a granted request ends
 pub releases-holding : (made : Made) (old new : PassSays) (bs ds : List Block) (c : Command) → GrowsBy c bs ds → is_poison c ≡ false → (g : GrantedSays) →
-    Standing made.table old.p bs (Holding g) → Finished made old (record { table = g.table; r = g.r; grant = g.grant; fault = no_fault }) new →
-    Standing made.table new.p ds Idle
+    Standing made.core old.p bs (Holding g) → Finished made old (record { core = g.core; r = g.r; grant = g.grant; fault = no_fault }) new →
+    Standing made.core new.p ds Idle
 releases-holding made old new bs ds c grows quiet g s f =
-    let t : Standing made.table old.p ds (Holding g) = holding-stays made.table old.p bs ds c grows g quiet s in
-    ends-idle made old new ds (begun_as g.r) (holding-is_open made.table old.p ds g t)
-    (record { table = g.table; r = g.r; grant = g.grant; fault = no_fault }) f refl
+    let t : Standing made.core old.p ds (Holding g) = holding-stays made.core old.p bs ds c grows g quiet s in
+    ends-idle made old new ds (begun_as g.r) (holding-is_open made.core old.p ds g t)
+    (record { core = g.core; r = g.r; grant = g.grant; fault = no_fault }) f refl
     (holding-ends old.p.shown t.stands.last g (passed_in new.p.shown g.r.id t.stands.last) t.stands.unreleased.0)
 
 -- an optimistic one ends by what its checks passed
 pub releases-checking : (made : Made) (old new : PassSays) (bs ds : List Block) (c : Command) → GrowsBy c bs ds → is_poison c ≡ false → is_wait c ≡ false →
     ((declared : List Latch) (held : List HeldLatch) (before : Option (List Latch)) → passed_behind declared held c before ≡ before) → (o : OptimistSays) →
-    Standing made.table old.p bs (Checking o) → (grant : Grant) → grant ≡ passed_grant o.passed →
-    Finished made old (record { table = o.table; r = o.r; grant = grant; fault = no_fault }) new →
-    Standing made.table new.p ds Idle
+    Standing made.core old.p bs (Checking o) → (grant : Grant) → grant ≡ passed_grant o.passed →
+    Finished made old (record { core = o.core; r = o.r; grant = grant; fault = no_fault }) new →
+    Standing made.core new.p ds Idle
 releases-checking made old new bs ds c grows quiet waits passes o s grant is f =
-    let t : Standing made.table old.p ds (Checking o) = checking-stays made.table old.p bs ds c grows o quiet waits passes s in
-    let ending : EndingSays = record { table = o.table; r = o.r; grant = grant; fault = no_fault } in
-    let on = goes_on made old new ds (begun_as o.r) (checking-is_open made.table old.p ds o t) ending f refl in
+    let t : Standing made.core old.p ds (Checking o) = checking-stays made.core old.p bs ds c grows o quiet waits passes s in
+    let ending : EndingSays = record { core = o.core; r = o.r; grant = grant; fault = no_fault } in
+    let on = goes_on made old new ds (begun_as o.r) (checking-is_open made.core old.p ds o t) ending f refl in
     let there : IsChecking new.p.shown t.stands.last o =
     subst (λ (h : List Entry). IsChecking h t.stands.last o) on.1 (checking-grown old.p.shown on.0 t.stands.last o t.stands.unreleased.0) in
-    ends-idle made old new ds (begun_as o.r) (checking-is_open made.table old.p ds o t) ending f refl
+    ends-idle made old new ds (begun_as o.r) (checking-is_open made.core old.p ds o t) ending f refl
     (subst
     (λ (x : Grant). MadeBy t.stands.last (passed_in new.p.shown o.r.id t.stands.last) (begun_as o.r)
     (record { id = o.r.id; grant = x; cause = o.r.cause; fault = no_fault }))
     (sym is) (checking-ends new.p.shown t.stands.last o there))
 
 -- one that is over has ended
-pub releases-over : (table : TableId) (p : PassView) (bs ds : List Block) (c : Command) → GrowsBy c bs ds → Standing table p bs Over → Standing table p ds Idle
-releases-over table p bs ds c grows s =
-    let t : Standing table p ds Over = over-stays table p bs ds c grows s in
+pub releases-over : (core : CoreId) (p : PassView) (bs ds : List Block) (c : Command) → GrowsBy c bs ds → Standing core p bs Over → Standing core p ds Idle
+releases-over core p bs ds c grows s =
+    let t : Standing core p ds Over = over-stays core p bs ds c grows s in
     let u = t.stands.unreleased in
     record {
       each = t.each;

@@ -1,23 +1,16 @@
 -- A session goes on standing as the history grows, and stands anew after what a call of the manager added.
-use Rattle.std.proofs.Common.{◌≡◌, ℕ, false, List, [], ◌∷◌, ◌++◌, length, Option, Some, None, refl, sym, ◌∙◌, ap, subst}
-use Rattle.std.proofs.lemmas.List.{append_assoc, append-nil, map-append}
-use Rattle.latch_model.specs.Declaration.{Declaration}
-use Rattle.latch_model.specs.Histories.{Begin, begin_with, entry_of}
-use Rattle.latch_model.specs.Legal.{IsLegal}
+use Rattle.std.proofs.Common.{◌≡◌, ℕ, List, [], ◌∷◌, ◌++◌, subst}
+use Rattle.std.proofs.lemmas.List.{map-append}
 use Rattle.latch_model.specs.declared.history.Entry.{Entry}
 use Rattle.latch_model.specs.declared.history.Entry.TheVariants.{Begun, Ended}
-use Rattle.latch_model.specs.declared.history.Sizes.{Sizes}
-use Rattle.latch_model.specs.declared.latch.Latch.{Latch}
-use Rattle.script.specs.Follows.{AllMadeBy, Block, EndEntry, MadeBy, passed_in}
-use Rattle.signal_board.specs.Rule.{IsPrefix, begun_as, entries}
-use Rattle.signal_board.specs.Says.{PassSays, shown_all}
+use Rattle.script.specs.Follows.{AllMadeBy, Block, passed_in}
+use Rattle.signal_board.specs.Rule.{IsPrefix, entries}
 use Rattle.signal_board.specs.Steps.{wrote}
 use Rattle.signal_board.specs.Views.{PassView}
 use Rattle.signal_board.proofs.Lists.{prefix_more}
-use Rattle.latch_manager.specs.Making.{Adds}
-use Rattle.replay.specs.Sessions.{Busy, Checking, EachBegun, Hand, Holding, Idle, IsChecking, IsHolding, IsOver, Over, Stands, Unreleased, end_of}
+use Rattle.replay.specs.Sessions.{Checking, EachBegun, Hand, Holding, Idle, IsChecking, IsHolding, IsOver, Over, Unreleased}
 use Rattle.replay.proofs.Hands.{checking-grown, holding-grown, over-grown}
-use Rattle.replay.proofs.Made.{each_begun-grown, each_begun-more, made_grown, made_more}
+use Rattle.replay.proofs.Made.{each_begun-grown, made_grown}
 
 pub each_begun-to : (h k es : List Entry) → IsPrefix h k → EachBegun h es → EachBegun k es
 each_begun-to h k es p each = subst (λ (x : List Entry). EachBegun x es) p.1 (each_begun-grown h p.0 es each)

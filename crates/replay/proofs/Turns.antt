@@ -1,39 +1,29 @@
 -- What a session has in hand after each of its commands.
-use Rattle.std.proofs.Common.{◌≡◌, ◌≢◌, ℕ, ◌<◌, ◌≤◌, Bool, true, false, List, [], ◌∷◌, ◌++◌, length, Option, Some, None, refl, sym, ◌∙◌, ap, subst}
-use Rattle.std.specs.Bool.{MatchBool}
-use Rattle.std.specs.List.{Contains}
-use Rattle.atomic_table.specs.Seated.{TableId}
+use Rattle.std.proofs.Common.{◌≡◌, ℕ, true, false, List, [], ◌∷◌, ◌++◌, Option, Some, refl, sym, ◌∙◌, ap, subst}
 use Rattle.latch_model.specs.Histories.{Begin, HeldLatch, begin_with, entry_of}
 use Rattle.latch_model.specs.declared.history.Cause.{Cause}
 use Rattle.latch_model.specs.declared.history.Cause.TheVariants.{None as no_cause, Called, From}
 use Rattle.latch_model.specs.declared.history.Entry.{Entry}
-use Rattle.latch_model.specs.declared.history.Fault.{Fault}
-use Rattle.latch_model.specs.declared.history.Fault.TheVariants.{None as no_fault, Poisoned, Cancelled}
-use Rattle.latch_model.specs.declared.history.Grant.{Grant}
-use Rattle.latch_model.specs.declared.history.Grant.TheVariants.{Never, Waited, Checked}
 use Rattle.latch_model.specs.declared.latch.Latch.{Latch}
-use Rattle.latch_model.specs.declared.latch.Mode.{Mode}
-use Rattle.latch_model.specs.declared.latch.Mode.TheVariants.{Acquire, Optimistic, Look}
+use Rattle.latch_model.specs.declared.latch.Mode.TheVariants.{Acquire}
 use Rattle.latch_model.specs.declared.latch.Policy.{Policy}
 use Rattle.latch_model.specs.declared.latch.Policy.TheVariants.{Wait, Error}
-use Rattle.script.specs.Follows.{AllMadeBy, AnyCause, Block, CauseOfAnother, EndEntry, MadeBy, NoCause, OwnCause, called_cause, declaration_of}
-use Rattle.script.specs.Follows.{has_wait, is_called}
-use Rattle.script.specs.Follows.{is_early, is_poison, is_wait, passed_behind, passed_grant, passed_in}
+use Rattle.script.specs.Follows.{AnyCause, Block, CauseOfAnother, NoCause, declaration_of}
+use Rattle.script.specs.Follows.{is_poison, is_wait, passed_behind}
 use Rattle.script.specs.declared.command.Command.{Command}
-use Rattle.signal_board.specs.Rule.{IsPrefix, begun_as, entries, open_count}
-use Rattle.signal_board.specs.Says.{LaneSays, PassSays, first_cause}
+use Rattle.signal_board.specs.Rule.{begun_as, entries}
+use Rattle.signal_board.specs.Says.{PassSays, first_cause}
 use Rattle.signal_board.specs.Views.{PassView, RequestView}
-use Rattle.waiter.specs.Says.{EndingSays, GrantedSays, OptimistSays, WaitingSays, Unpolled}
+use Rattle.waiter.specs.Says.{CoreId, EndingSays, GrantedSays, OpenedSays, OptimistSays}
 use Rattle.latch_manager.specs.Making.{Began, Finished, Made, unpolled}
-use Rattle.latch_manager.specs.Waiting.{AtLimit, CauseAfter, CauseFound, IsFound, StillWaits, WaitGrants}
+use Rattle.latch_manager.specs.Waiting.{CauseAfter, CauseFound, StillWaits, WaitGrants}
 use Rattle.replay.specs.Blocks.{GrowsBy, new_block, with_more}
-use Rattle.replay.specs.Sessions.{Busy, Checking, EachBegun, FailedWait, Hand, HandGiven, HeldCause, Holding, Idle, IsChecking, IsHolding, IsOver}
+use Rattle.replay.specs.Sessions.{Busy, Checking, Hand, Holding, Idle}
 use Rattle.replay.specs.Sessions.{OpenBlock, Over}
-use Rattle.replay.specs.Sessions.{OverBy, Standing, Stands, Unreleased, end_of}
-use Rattle.replay.proofs.Endings.{ends-idle, ends-over, ends_with, opened-is_open}
-use Rattle.replay.proofs.Hands.{checking-ends, checking-grown, checking-poisoned, checking-quiet, holding-ends, holding-poisoned, holding-quiet}
-use Rattle.replay.proofs.Hands.{over-ends, over-more}
-use Rattle.replay.proofs.Made.{called-more, early-first, waits-more}
+use Rattle.replay.specs.Sessions.{OverBy, Standing, Unreleased}
+use Rattle.replay.proofs.Endings.{ends-over, opened-is_open}
+use Rattle.replay.proofs.Hands.{checking-poisoned, checking-quiet, holding-poisoned, holding-quiet}
+use Rattle.replay.proofs.Hands.{over-more}
 use Rattle.replay.proofs.Openings.{opening_begun, opening_busy, opening_cause, opening_declared, opening_each, opening_mode, opening_who}
 
 -- ---- causes
@@ -66,10 +56,10 @@ from_called r cause e k = subst (λ (c : Cause). CauseFound r c r.request.policy
 pub still-begun : (old new : RequestView) → StillWaits old new → begun_as new ≡ begun_as old
 still-begun old new k = ap begun_as k.same
 
-pub acquired-holds : (made : Made) (old new : PassSays) (line : ℕ) (policy : Policy) (turns : Option ℕ) (latches : List Latch) (opened : LaneSays) →
+pub acquired-holds : (made : Made) (old new : PassSays) (line : ℕ) (policy : Policy) (turns : Option ℕ) (latches : List Latch) (opened : OpenedSays) →
     Began made old Acquire (declaration_of (new_block line Acquire policy turns latches)) opened new → (bs : List Block)
-    → Standing made.table old.p bs Idle → (g : GrantedSays) → WaitGrants (unpolled opened) g →
-    Standing made.table new.p (bs ++ new_block line Acquire policy turns latches ∷ []) (Holding g)
+    → Standing made.core old.p bs Idle → (g : GrantedSays) → WaitGrants (unpolled opened) g →
+    Standing made.core new.p (bs ++ new_block line Acquire policy turns latches ∷ []) (Holding g)
 acquired-holds made old new line policy turns latches opened k bs s g w =
     let block : Block = new_block line Acquire policy turns latches in
     let same : begun_as g.r ≡ begun_as opened.r = ap (λ (x : GrantedSays). begun_as x.r) w.granted_is ∙ still-begun opened.r w.r w.still in
@@ -89,14 +79,14 @@ acquired-holds made old new line policy turns latches opened k bs s g w =
         ap (λ (x : Begin). entry_of x ∷ []) (sym same),
       );
       given = (
-        ap (λ (x : GrantedSays). x.table) w.granted_is ∙ ap (λ (x : LaneSays). x.table) k.opened_is,
-        ap (λ (x : Begin). x.who) same ∙ (ap (λ (x : LaneSays). x.r.who) k.opened_is ∙ sym (opening_who made old new Acquire block opened k bs s)),
+        ap (λ (x : GrantedSays). x.core) w.granted_is ∙ ap (λ (x : OpenedSays). x.core) k.opened_is,
+        ap (λ (x : Begin). x.who) same ∙ (ap (λ (x : OpenedSays). x.r.who) k.opened_is ∙ sym (opening_who made old new Acquire block opened k bs s)),
       );
     }
 
 -- A request that was opened and then ended, with this cause behind its wait.
-module _ (made : Made) (old mid new : PassSays) (block : Block) (opened : LaneSays) (k : Began made old block.mode (declaration_of block) opened mid)
-    (bs : List Block) (s : Standing made.table old.p bs Idle) (ending : EndingSays) (r : RequestView) (still : StillWaits opened.r r)
+module _ (made : Made) (old mid new : PassSays) (block : Block) (opened : OpenedSays) (k : Began made old block.mode (declaration_of block) opened mid)
+    (bs : List Block) (s : Standing made.core old.p bs Idle) (ending : EndingSays) (r : RequestView) (still : StillWaits opened.r r)
     (same : begun_as ending.r ≡ begun_as r) (cause : ending.r.cause ≡ r.cause) (f : Finished made mid ending new) where
   abbrev none : opened.r.cause ≡ no_cause
   none = opening_cause made old mid block.mode block opened k bs s
@@ -104,7 +94,7 @@ module _ (made : Made) (old mid new : PassSays) (block : Block) (opened : LaneSa
   came : CauseFound opened.r no_cause opened.r.request.policy ending.r.cause
   came = subst (CauseFound opened.r no_cause opened.r.request.policy) (sym cause) (from_none opened.r r.cause none still.cause)
 
-  pub opened-over : OverBy block.mode block ending.grant ending.fault ending.r.cause → Standing made.table new.p (bs ++ block ∷ []) Over
+  pub opened-over : OverBy block.mode block ending.grant ending.fault ending.r.cause → Standing made.core new.p (bs ++ block ∷ []) Over
   opened-over ends =
       ends-over made mid new (bs ++ block ∷ []) (begun_as opened.r) (opened-is_open made old mid block opened k bs s) ending f
       (same ∙ still-begun opened.r r still) ends
@@ -117,9 +107,9 @@ module _ (made : Made) (old mid new : PassSays) (block : Block) (opened : LaneSa
 
 -- ---- the request in hand is that of the last block
 
-abbrev pub checking-is_open : (table : TableId) (p : PassView) (bs : List Block) (o : OptimistSays) → Standing table p bs (Checking o) →
+abbrev pub checking-is_open : (core : CoreId) (p : PassView) (bs : List Block) (o : OptimistSays) → Standing core p bs (Checking o) →
     OpenBlock p bs (begun_as o.r)
-checking-is_open table p bs o s = record {
+checking-is_open core p bs o s = record {
   done = s.stands.done;
   last = s.stands.last;
   before = s.stands.before;
@@ -133,9 +123,9 @@ checking-is_open table p bs o s = record {
   session = s.given.1;
 }
 
-abbrev pub holding-is_open : (table : TableId) (p : PassView) (bs : List Block) (g : GrantedSays) → Standing table p bs (Holding g) →
+abbrev pub holding-is_open : (core : CoreId) (p : PassView) (bs : List Block) (g : GrantedSays) → Standing core p bs (Holding g) →
     OpenBlock p bs (begun_as g.r)
-holding-is_open table p bs g s = record {
+holding-is_open core p bs g s = record {
   done = s.stands.done;
   last = s.stands.last;
   before = s.stands.before;
@@ -151,7 +141,7 @@ holding-is_open table p bs g s = record {
 
 -- ---- one more command on its name
 
-module _ (table : TableId) (p : PassView) (bs ds : List Block) (c : Command) (grows : GrowsBy c bs ds) where
+module _ (core : CoreId) (p : PassView) (bs ds : List Block) (c : Command) (grows : GrowsBy c bs ds) where
   pub busy-more : (hand now : Hand) → Busy p.shown p.who bs (entries p.mine) hand →
       ((last : Block) (own : List Entry) → Unreleased p.shown p.who last own hand → Unreleased p.shown p.who (with_more last c) own now) →
       Busy p.shown p.who ds (entries p.mine) now
@@ -167,14 +157,14 @@ module _ (table : TableId) (p : PassView) (bs ds : List Block) (c : Command) (gr
   }
 
   -- what is granted or over stays so
-  pub holding-stays : (g : GrantedSays) → is_poison c ≡ false → Standing table p bs (Holding g) → Standing table p ds (Holding g)
+  pub holding-stays : (g : GrantedSays) → is_poison c ≡ false → Standing core p bs (Holding g) → Standing core p ds (Holding g)
   holding-stays g quiet s = record {
     each = s.each;
     stands = busy-more (Holding g) (Holding g) s.stands (λ last own u. (holding-quiet p.shown last c g quiet u.0, u.1));
     given = s.given;
   }
 
-  pub over-stays : Standing table p bs Over → Standing table p ds Over
+  pub over-stays : Standing core p bs Over → Standing core p ds Over
   over-stays s = record {
     each = s.each;
     stands = busy-more Over Over s.stands (λ last own u. (u.0, u.1, over-more p.shown last c u.0 u.1 u.2, u.3));
@@ -183,7 +173,7 @@ module _ (table : TableId) (p : PassView) (bs ds : List Block) (c : Command) (gr
 
   pub checking-stays : (o : OptimistSays) → is_poison c ≡ false → is_wait c ≡ false →
       ((declared : List Latch) (held : List HeldLatch) (before : Option (List Latch)) → passed_behind declared held c before ≡ before) →
-      Standing table p bs (Checking o) → Standing table p ds (Checking o)
+      Standing core p bs (Checking o) → Standing core p ds (Checking o)
   checking-stays o quiet waits passes s = record {
     each = s.each;
     stands = busy-more (Checking o) (Checking o) s.stands (λ last own u. (checking-quiet p.shown last c o quiet waits passes u.0, u.1));
@@ -191,8 +181,8 @@ module _ (table : TableId) (p : PassView) (bs ds : List Block) (c : Command) (gr
   }
 
   -- a poisoning
-  pub holding-called : (g : GrantedSays) → is_poison c ≡ true → Standing table p bs (Holding g) →
-      Standing table p ds (Holding (record g { r = record g.r { cause = first_cause g.r.cause Called } }))
+  pub holding-called : (g : GrantedSays) → is_poison c ≡ true → Standing core p bs (Holding g) →
+      Standing core p ds (Holding (record g { r = record g.r { cause = first_cause g.r.cause Called } }))
   holding-called g poisons s = record {
     each = s.each;
     stands = busy-more (Holding g) (Holding (record g { r = record g.r { cause = first_cause g.r.cause Called } })) s.stands
@@ -202,7 +192,7 @@ module _ (table : TableId) (p : PassView) (bs ds : List Block) (c : Command) (gr
 
   pub checking-called : (o : OptimistSays) → is_poison c ≡ true → is_wait c ≡ false →
       ((declared : List Latch) (held : List HeldLatch) (before : Option (List Latch)) → passed_behind declared held c before ≡ before) →
-      Standing table p bs (Checking o) → Standing table p ds (Checking (record o { r = record o.r { cause = first_cause o.r.cause Called } }))
+      Standing core p bs (Checking o) → Standing core p ds (Checking (record o { r = record o.r { cause = first_cause o.r.cause Called } }))
   checking-called o poisons waits passes s = record {
     each = s.each;
     stands = busy-more (Checking o) (Checking (record o { r = record o.r { cause = first_cause o.r.cause Called } })) s.stands

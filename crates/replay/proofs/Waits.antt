@@ -1,28 +1,25 @@
 -- An optimistic request turns to waiting.
-use Rattle.std.proofs.Common.{◌≡◌, ℕ, ◌||◌, Bool, true, false, List, [], ◌∷◌, ◌++◌, Option, Some, None, refl, sym, ◌∙◌, ap, subst}
+use Rattle.std.proofs.Common.{◌≡◌, ℕ, ◌||◌, Bool, true, false, List, [], ◌∷◌, Some, refl, sym, ◌∙◌, ap, subst}
 use Rattle.std.specs.Bool.{MatchBool}
-use Rattle.atomic_table.specs.Seated.{TableId}
 use Rattle.latch_model.specs.Histories.{Begin, begin_with, entry_of}
 use Rattle.latch_model.specs.declared.history.Cause.{Cause}
-use Rattle.latch_model.specs.declared.history.Cause.TheVariants.{None as no_cause, Called, From}
-use Rattle.latch_model.specs.declared.history.Entry.{Entry}
 use Rattle.latch_model.specs.declared.history.Fault.{Fault}
 use Rattle.latch_model.specs.declared.history.Fault.TheVariants.{Poisoned, Cancelled}
 use Rattle.latch_model.specs.declared.history.Grant.TheVariants.{Never}
 use Rattle.latch_model.specs.declared.latch.Mode.{Mode}
 use Rattle.latch_model.specs.declared.latch.Mode.TheVariants.{Optimistic}
 use Rattle.latch_model.specs.declared.latch.Policy.{Policy}
-use Rattle.latch_model.specs.declared.latch.Policy.TheVariants.{Wait, Error}
+use Rattle.latch_model.specs.declared.latch.Policy.TheVariants.{Error}
 use Rattle.script.specs.Follows.{AnyCause, Block, CauseOfAnother, NoCause, OwnCause, called_cause, has_wait, is_called, is_early, is_poison, is_wait}
 use Rattle.script.specs.declared.command.Command.{Command}
-use Rattle.signal_board.specs.Rule.{begun_as, entries}
+use Rattle.signal_board.specs.Rule.{begun_as}
 use Rattle.signal_board.specs.Says.{PassSays}
 use Rattle.signal_board.specs.Views.{PassView, RequestView}
-use Rattle.waiter.specs.Says.{EndingSays, GrantedSays, OptimistSays, Unpolled}
+use Rattle.waiter.specs.Says.{CoreId, EndingSays, GrantedSays, OptimistSays, Unpolled}
 use Rattle.latch_manager.specs.Making.{Finished, Made}
 use Rattle.latch_manager.specs.Waiting.{CauseAfter, CauseFound, StillWaits, WaitGrants}
 use Rattle.replay.specs.Blocks.{GrowsBy, with_more}
-use Rattle.replay.specs.Sessions.{Checking, FailedWait, HeldCause, Holding, IsChecking, Over, OverBy, Standing}
+use Rattle.replay.specs.Sessions.{Checking, FailedWait, HeldCause, Holding, Over, OverBy, Standing}
 use Rattle.replay.proofs.Endings.{ends-over}
 use Rattle.replay.proofs.Made.{called-more, early-first, waits-more}
 use Rattle.replay.proofs.Turns.{busy-more, checking-is_open, found_any, found_none, found_other, open-more, still-begun}
@@ -69,14 +66,14 @@ by_mode mode b cause e k = subst (λ (m : Mode). HeldCause m b cause) (sym e) k
 -- ---- the wait
 
 -- A wait of the optimistic request in hand that grants.
-pub turned-holds : (table : TableId) (p : PassView) (bs ds : List Block) (c : Command) → GrowsBy c bs ds → is_wait c ≡ true → is_poison c ≡ false →
-    (o : OptimistSays) → Standing table p bs (Checking o) → (g : GrantedSays) →
-    WaitGrants (record { table = o.table; r = o.r; turns = 0; last = Unpolled }) g → Standing table p ds (Holding g)
-turned-holds table p bs ds c grows waits quiet o s g w =
+pub turned-holds : (core : CoreId) (p : PassView) (bs ds : List Block) (c : Command) → GrowsBy c bs ds → is_wait c ≡ true → is_poison c ≡ false →
+    (o : OptimistSays) → Standing core p bs (Checking o) → (g : GrantedSays) →
+    WaitGrants (record { core = o.core; r = o.r; turns = 0; last = Unpolled }) g → Standing core p ds (Holding g)
+turned-holds core p bs ds c grows waits quiet o s g w =
     let same : begun_as g.r ≡ begun_as o.r = ap (λ (x : GrantedSays). begun_as x.r) w.granted_is ∙ still-begun o.r w.r w.still in
     record {
       each = s.each;
-      stands = busy-more table p bs ds c grows (Checking o) (Holding g) s.stands (λ last own u. (
+      stands = busy-more core p bs ds c grows (Checking o) (Holding g) s.stands (λ last own u. (
         record {
           begun = subst (λ (x : Begin). begin_with p.shown x.id ≡ Some x) (sym same) u.0.begun;
           mode = ap (λ (x : Begin). x.mode) same ∙ (u.0.is_optimistic ∙ sym u.0.mode);
@@ -88,7 +85,7 @@ turned-holds table p bs ds c grows waits quiet o s g w =
         },
         u.1 ∙ ap (λ (x : Begin). entry_of x ∷ []) (sym same),
       ));
-      given = (ap (λ (x : GrantedSays). x.table) w.granted_is ∙ s.given.0, ap (λ (x : Begin). x.who) same ∙ s.given.1);
+      given = (ap (λ (x : GrantedSays). x.core) w.granted_is ∙ s.given.0, ap (λ (x : Begin). x.who) same ∙ s.given.1);
     }
   where
     holds_so : (last : Block) (cause : Cause) → has_wait last ≡ false → CauseFound o.r (called_cause (is_called last)) o.r.request.policy cause
@@ -102,7 +99,7 @@ turned-holds table p bs ds c grows waits quiet o s g w =
 
 -- One that fails, after which the request was ended.
 module _ (made : Made) (old new : PassSays) (bs ds : List Block) (c : Command) (grows : GrowsBy c bs ds) (waits : is_wait c ≡ true)
-    (quiet : is_poison c ≡ false) (o : OptimistSays) (s : Standing made.table old.p bs (Checking o)) (ending : EndingSays) (r : RequestView)
+    (quiet : is_poison c ≡ false) (o : OptimistSays) (s : Standing made.core old.p bs (Checking o)) (ending : EndingSays) (r : RequestView)
     (still : StillWaits o.r r) (same : begun_as ending.r ≡ begun_as r) (cause : ending.r.cause ≡ r.cause) (f : Finished made old ending new) where
   abbrev last : Block
   last = s.stands.last
@@ -115,9 +112,9 @@ module _ (made : Made) (old new : PassSays) (bs ds : List Block) (c : Command) (
   early : is_early (with_more last c) ≡ is_called last
   early = early-first last c s.stands.unreleased.0.waits waits
 
-  over : OverBy Optimistic (with_more last c) ending.grant ending.fault ending.r.cause → Standing made.table new.p ds Over
+  over : OverBy Optimistic (with_more last c) ending.grant ending.fault ending.r.cause → Standing made.core new.p ds Over
   over ends =
-      ends-over made old new ds (begun_as o.r) (open-more old.p bs ds c (begun_as o.r) grows (checking-is_open made.table old.p bs o s)) ending f
+      ends-over made old new ds (begun_as o.r) (open-more old.p bs ds c (begun_as o.r) grows (checking-is_open made.core old.p bs o s)) ending f
       (same ∙ still-begun o.r r still)
       (subst (λ (m : Mode). OverBy m (with_more last c) ending.grant ending.fault ending.r.cause) (sym s.stands.unreleased.0.mode) ends)
 
@@ -132,7 +129,7 @@ module _ (made : Made) (old new : PassSays) (bs ds : List Block) (c : Command) (
         (sym early) m,
   )
 
-  pub turned-failed : (p : ℕ) → ending.grant ≡ Never → ending.fault ≡ Poisoned p → o.r.request.policy ≡ Error → Standing made.table new.p ds Over
+  pub turned-failed : (p : ℕ) → ending.grant ≡ Never → ending.fault ≡ Poisoned p → o.r.request.policy ≡ Error → Standing made.core new.p ds Over
   turned-failed p never fault policy =
       over
       (over_by
@@ -145,7 +142,7 @@ module _ (made : Made) (old new : PassSays) (bs ds : List Block) (c : Command) (
       by false m grant f e g = subst (λ a. FailedWait last.turns NoCause CauseOfAnother a f ending.r.cause) (sym e)
           (subst (λ (a : Fault). FailedWait last.turns NoCause CauseOfAnother Never a ending.r.cause) (sym g) m)
 
-  pub turned-stopped : (n : ℕ) → ending.grant ≡ Never → ending.fault ≡ Cancelled n → last.turns ≡ Some n → Standing made.table new.p ds Over
+  pub turned-stopped : (n : ℕ) → ending.grant ≡ Never → ending.fault ≡ Cancelled n → last.turns ≡ Some n → Standing made.core new.p ds Over
   turned-stopped n never fault turns =
       over (over_by (by (is_called last) (stopped_turned o.r o.r.request.policy ending.r.cause (is_called last) came) ending.grant ending.fault never fault))
     where

@@ -13,6 +13,7 @@ use Rattle.script.specs.declared.command.Command.{Command}
 use Rattle.script.specs.declared.command.Command.TheVariants.{Begin, Wait, Check, Poison, Release, Metrics}
 use Rattle.signal_board.specs.Rule.{open_count, own}
 use Rattle.signal_board.specs.Says.{PassSays}
+use Rattle.waiter.specs.Says.{CoreId}
 use Rattle.replay.specs.Blocks.{GrowsBy, LiveName, blocks_until, new_block}
 use Rattle.replay.specs.Sessions.{Hand, Idle, Standing, TurnsOf}
 
@@ -39,9 +40,9 @@ RunsTo line turns (Release name) hand bs ds = (hand ≢ Idle) × GrowsBy (Releas
 RunsTo line turns Metrics hand bs ds = ⊥
 
 -- What running a command does to a session that stands at its blocks.
-abbrev pub Ran : TableId → ℕ → Option ℕ → Command → PassSays → Hand → PassSays → Hand → Type 0
-Ran table line turns c old hand new next =
-    (bs ds : List Block) → RunsTo line turns c hand bs ds → Standing table old.p bs hand → Standing table new.p ds next
+abbrev pub Ran : CoreId → ℕ → Option ℕ → Command → PassSays → Hand → PassSays → Hand → Type 0
+Ran core line turns c old hand new next =
+    (bs ds : List Block) → RunsTo line turns c hand bs ds → Standing core old.p bs hand → Standing core new.p ds next
 
 -- What is in hand then: nothing behind a release, and something behind every other command on a live name.
 abbrev pub NextHand : Command → Hand → Hand → Type 0
@@ -61,10 +62,10 @@ IsLiveAt cs w i (Some k) bs hand =
     × (slice_get cs k ≡ Some (Begin w name mode policy turns latches)) × LiveName (take i cs) w (Some name) × TurnsOf bs turns × (hand ≢ Idle)
 
 -- Where a session stands in front of command i.
-pub record IsAt (cs : List Command) (table : TableId) (w i : ℕ) (pass : PassSays) (live : Option ℕ) (hand : Hand) : Type 0 where
-  pub board : pass.table ≡ table
+pub record IsAt (cs : List Command) (core : CoreId) (w i : ℕ) (pass : PassSays) (live : Option ℕ) (hand : Hand) : Type 0 where
+  pub board : pass.table ≡ core.signals
   pub session : pass.p.who ≡ w
-  pub standing : Standing table pass.p (blocks_until cs w i) hand
+  pub standing : Standing core pass.p (blocks_until cs w i) hand
   pub named : IsLiveAt cs w i live (blocks_until cs w i) hand
 
 -- the place of the opening of the live name behind a command of the session

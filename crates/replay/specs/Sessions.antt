@@ -1,23 +1,20 @@
 -- Where a session stands: what its entries are, and what it has in hand, after some of its commands.
 use Rattle.std.specs.Prelude.{◌≡◌, ℕ, ◌≤◌, true, false, List, [], ◌∷◌, ◌++◌, Option, Some, None}
 use Rattle.std.specs.Bool.{MatchBool}
-use Rattle.atomic_table.specs.Seated.{TableId}
 use Rattle.latch_model.specs.Histories.{Begin, begin_with, entry_of, shot}
 use Rattle.latch_model.specs.declared.history.Cause.{Cause}
-use Rattle.latch_model.specs.declared.history.Cause.TheVariants.{None as no_cause, Called}
 use Rattle.latch_model.specs.declared.history.Entry.{Entry}
 use Rattle.latch_model.specs.declared.history.Entry.TheVariants.{Begun, Ended}
 use Rattle.latch_model.specs.declared.history.Fault.{Fault}
 use Rattle.latch_model.specs.declared.history.Grant.{Grant}
 use Rattle.latch_model.specs.declared.history.Grant.TheVariants.{Waited}
-use Rattle.latch_model.specs.declared.latch.Latch.{Latch}
 use Rattle.latch_model.specs.declared.latch.Mode.{Mode}
 use Rattle.latch_model.specs.declared.latch.Mode.TheVariants.{Acquire, Optimistic, Look}
 use Rattle.script.specs.Follows.{AllMadeBy, AnyCause, Block, CauseOfAnother, EndEntry, LookEnds, NoCause, OwnCause, WaitEnds, called_cause, declaration_of}
 use Rattle.script.specs.Follows.{has_wait, is_called, is_early, passed_in}
 use Rattle.signal_board.specs.Rule.{begun_as, entries, open_count}
 use Rattle.signal_board.specs.Views.{PassView}
-use Rattle.waiter.specs.Says.{GrantedSays, OptimistSays}
+use Rattle.waiter.specs.Says.{CoreId, GrantedSays, OptimistSays}
 pub use Rattle.replay.specs.declared.hand.Hand.{Hand}
 pub use Rattle.replay.specs.declared.hand.Hand.TheVariants.{Idle, Checking, Holding, Over}
 
@@ -102,25 +99,25 @@ EachBegun h [] = Unit {0}
 EachBegun h (Begun id lane who mode request ∷ es) = ((b : Begin) × (begin_with h id ≡ Some b)) × EachBegun h es
 EachBegun h (Ended id who grant cause fault ∷ es) = EachBegun h es
 
--- The request in hand is one of this board.
-abbrev pub HandAt : TableId → Hand → Type 0
-HandAt table Idle = Unit {0}
-HandAt table (Checking o) = o.table ≡ table
-HandAt table (Holding g) = g.table ≡ table
-HandAt table Over = Unit {0}
+-- The request in hand is one of this core.
+abbrev pub HandAt : CoreId → Hand → Type 0
+HandAt core Idle = Unit {0}
+HandAt core (Checking o) = o.core ≡ core
+HandAt core (Holding g) = g.core ≡ core
+HandAt core Over = Unit {0}
 
--- The request in hand is one of this board and of this session; where there is none, the pass has no open request.
-abbrev pub HandGiven : TableId → PassView → Hand → Type 0
-HandGiven table p Idle = open_count p.mine ≡ 0
-HandGiven table p (Checking o) = (o.table ≡ table) × (o.r.who ≡ p.who)
-HandGiven table p (Holding g) = (g.table ≡ table) × (g.r.who ≡ p.who)
-HandGiven table p Over = open_count p.mine ≡ 0
+-- The request in hand is one of this core and of this session; where there is none, the pass has no open request.
+abbrev pub HandGiven : CoreId → PassView → Hand → Type 0
+HandGiven core p Idle = open_count p.mine ≡ 0
+HandGiven core p (Checking o) = (o.core ≡ core) × (o.r.who ≡ p.who)
+HandGiven core p (Holding g) = (g.core ≡ core) × (g.r.who ≡ p.who)
+HandGiven core p Over = open_count p.mine ≡ 0
 
 -- A session after some of its commands, by what its pass has been shown and by its own entries.
-pub record Standing (table : TableId) (p : PassView) (bs : List Block) (hand : Hand) : Type 0 where
+pub record Standing (core : CoreId) (p : PassView) (bs : List Block) (hand : Hand) : Type 0 where
   pub each : EachBegun p.shown (entries p.mine)
   pub stands : Stands p.shown p.who bs (entries p.mine) hand
-  pub given : HandGiven table p hand
+  pub given : HandGiven core p hand
 
 -- The last block's request is open: what the released blocks made, and its begin.
 pub record OpenBlock (p : PassView) (bs : List Block) (b : Begin) : Type 0 where

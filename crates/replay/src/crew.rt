@@ -28,9 +28,9 @@ pub(crate) fn crew<N: Making + Send + Sync, G: Gate, R: Threads + Wait + Sync>(
     requires script { IsScript commands.now }
     requires few { length commands.now < 2 ^ 31 }
     requires sizes { N.made.sizes ≡ program_sizes }
-    requires fresh { All (Fresh N.made.table) passes.old }
+    requires fresh { All (Fresh N.made.core.signals) passes.old }
     ensures whos { whos passes.new ≡ whos passes.old }
-    ensures rested { All (Rested N.made.table) passes.new }
+    ensures rested { All (Rested N.made.core.signals) passes.new }
     ensures follows { OnOk result (All (FollowsIn commands.now) passes.new) }
     ensures stops { IfErr result (StopsBy (ScriptLacks commands.now)) }
 {
@@ -42,17 +42,17 @@ pub(crate) fn crew<N: Making + Send + Sync, G: Gate, R: Threads + Wait + Sync>(
         rt,
         &mut ||
             requires { IsSync R.row × IsSync N.row × IsSync G.row × IsScript commands.now × (length commands.now < 2 ^ 31) × (N.made.sizes ≡ program_sizes)
-                × All (Fresh N.made.table) front.now }
+                × All (Fresh N.made.core.signals) front.now }
             ensures whos { whos front.exit.now ≡ whos front.entry.now }
-            ensures rested { All (Rested N.made.table) front.exit.now }
+            ensures rested { All (Rested N.made.core.signals) front.exit.now }
             ensures follows { OnOk result (All (FollowsIn commands.entry.now) front.exit.now) }
             ensures stops { IfErr result (StopsBy (ScriptLacks commands.entry.now)) }
         { crew(rt, alloc, commands, manager, front, gate) },
         &mut ||
             requires { IsSync R.row × IsSync N.row × IsSync G.row × IsScript commands.now × (length commands.now < 2 ^ 31) × (N.made.sizes ≡ program_sizes)
-                × All (Fresh N.made.table) back.now }
+                × All (Fresh N.made.core.signals) back.now }
             ensures whos { whos back.exit.now ≡ whos back.entry.now }
-            ensures rested { All (Rested N.made.table) back.exit.now }
+            ensures rested { All (Rested N.made.core.signals) back.exit.now }
             ensures follows { OnOk result (All (FollowsIn commands.entry.now) back.exit.now) }
             ensures stops { IfErr result (StopsBy (ScriptLacks commands.entry.now)) }
         { crew(rt, alloc, commands, manager, back, gate) },
@@ -72,10 +72,10 @@ fn alone<N: Making, G: Gate, R: Wait>(
     requires script { IsScript commands.now }
     requires few { length commands.now < 2 ^ 31 }
     requires sizes { N.made.sizes ≡ program_sizes }
-    requires fresh { All (Fresh N.made.table) passes.old }
+    requires fresh { All (Fresh N.made.core.signals) passes.old }
     requires one { length passes.old < 2 }
     ensures whos { whos passes.new ≡ whos passes.old }
-    ensures rested { All (Rested N.made.table) passes.new }
+    ensures rested { All (Rested N.made.core.signals) passes.new }
     ensures follows { OnOk result (All (FollowsIn commands.now) passes.new) }
     ensures stops { IfErr result (StopsBy (ScriptLacks commands.now)) }
 {

@@ -46,14 +46,14 @@ pub(crate) fn acquire<N: Making, R: Wait>(
 ) -> Result<Hand, RunFault>
     requires sizes { N.made.sizes ≡ program_sizes }
     requires few { length request.latches ≤ LIMIT }
-    requires table { pass.old.table ≡ N.made.table }
+    requires table { pass.old.table ≡ N.made.core.signals }
     requires idle { open_count pass.old.p.mine ≡ 0 }
     requires turns { SomeTurns turns }
     ensures keeps { Keeps pass.old pass.new }
     ensures stands { IfOk result (λ hand. (bs : List Block) (line : ℕ) (policy : IsPolicy) (latches : List Latch) →
-        request ≡ declaration_of (new_block line Acquire policy turns latches) → Standing N.made.table pass.old.p bs Idle →
-        Standing N.made.table pass.new.p (bs ++ new_block line Acquire policy turns latches ∷ []) hand) }
-    ensures given { IfOk result (HandGiven N.made.table pass.new.p) }
+        request ≡ declaration_of (new_block line Acquire policy turns latches) → Standing N.made.core pass.old.p bs Idle →
+        Standing N.made.core pass.new.p (bs ++ new_block line Acquire policy turns latches ∷ []) hand) }
+    ensures given { IfOk result (HandGiven N.made.core pass.new.p) }
     ensures some { IfOk result (λ hand. hand ≢ Idle) }
     ensures ended { OnErr result (open_count pass.new.p.mine ≡ 0) }
     ensures stops { IfErr result (StopsBy (LacksRows Acquire request.latches)) }
@@ -74,14 +74,14 @@ fn acquire_with<N: Making, R: Wait, P: Patience>(
 ) -> Result<Hand, RunFault>
     requires sizes { N.made.sizes ≡ program_sizes }
     requires few { length request.latches ≤ LIMIT }
-    requires table { pass.old.table ≡ N.made.table }
+    requires table { pass.old.table ≡ N.made.core.signals }
     requires idle { open_count pass.old.p.mine ≡ 0 }
     ensures keeps { Keeps pass.old pass.new }
     ensures stands { IfOk result (λ hand. (bs : List Block) (line : ℕ) (policy : IsPolicy) (turns : Option ℕ) (latches : List Latch) →
         PatienceOf turns (P.refusals patience.old) (P.refusals patience.new) (P.limit patience.old) →
-        request ≡ declaration_of (new_block line Acquire policy turns latches) → Standing N.made.table pass.old.p bs Idle →
-        Standing N.made.table pass.new.p (bs ++ new_block line Acquire policy turns latches ∷ []) hand) }
-    ensures given { IfOk result (HandGiven N.made.table pass.new.p) }
+        request ≡ declaration_of (new_block line Acquire policy turns latches) → Standing N.made.core pass.old.p bs Idle →
+        Standing N.made.core pass.new.p (bs ++ new_block line Acquire policy turns latches ∷ []) hand) }
+    ensures given { IfOk result (HandGiven N.made.core pass.new.p) }
     ensures some { IfOk result (λ hand. hand ≢ Idle) }
     ensures ended { OnErr result (open_count pass.new.p.mine ≡ 0) }
     ensures stops { IfErr result (StopsBy (LacksRows Acquire request.latches)) }
@@ -105,14 +105,14 @@ pub(crate) fn look<N: Making, R: Wait>(
 ) -> Result<Hand, RunFault>
     requires sizes { N.made.sizes ≡ program_sizes }
     requires few { length request.latches ≤ LIMIT }
-    requires table { pass.old.table ≡ N.made.table }
+    requires table { pass.old.table ≡ N.made.core.signals }
     requires idle { open_count pass.old.p.mine ≡ 0 }
     requires turns { SomeTurns turns }
     ensures keeps { Keeps pass.old pass.new }
     ensures stands { IfOk result (λ hand. (bs : List Block) (line : ℕ) (policy : IsPolicy) (latches : List Latch) →
-        request ≡ declaration_of (new_block line Look policy turns latches) → Standing N.made.table pass.old.p bs Idle →
-        Standing N.made.table pass.new.p (bs ++ new_block line Look policy turns latches ∷ []) hand) }
-    ensures given { IfOk result (HandGiven N.made.table pass.new.p) }
+        request ≡ declaration_of (new_block line Look policy turns latches) → Standing N.made.core pass.old.p bs Idle →
+        Standing N.made.core pass.new.p (bs ++ new_block line Look policy turns latches ∷ []) hand) }
+    ensures given { IfOk result (HandGiven N.made.core pass.new.p) }
     ensures some { IfOk result (λ hand. hand ≢ Idle) }
     ensures ended { OnErr result (open_count pass.new.p.mine ≡ 0) }
     ensures stops { IfErr result (StopsBy (LacksRows Look request.latches)) }
@@ -133,14 +133,14 @@ fn look_with<N: Making, R: Wait, P: Patience>(
 ) -> Result<Hand, RunFault>
     requires sizes { N.made.sizes ≡ program_sizes }
     requires few { length request.latches ≤ LIMIT }
-    requires table { pass.old.table ≡ N.made.table }
+    requires table { pass.old.table ≡ N.made.core.signals }
     requires idle { open_count pass.old.p.mine ≡ 0 }
     ensures keeps { Keeps pass.old pass.new }
     ensures stands { IfOk result (λ hand. (bs : List Block) (line : ℕ) (policy : IsPolicy) (turns : Option ℕ) (latches : List Latch) →
         PatienceOf turns (P.refusals patience.old) (P.refusals patience.new) (P.limit patience.old) →
-        request ≡ declaration_of (new_block line Look policy turns latches) → Standing N.made.table pass.old.p bs Idle →
-        Standing N.made.table pass.new.p (bs ++ new_block line Look policy turns latches ∷ []) hand) }
-    ensures given { IfOk result (HandGiven N.made.table pass.new.p) }
+        request ≡ declaration_of (new_block line Look policy turns latches) → Standing N.made.core pass.old.p bs Idle →
+        Standing N.made.core pass.new.p (bs ++ new_block line Look policy turns latches ∷ []) hand) }
+    ensures given { IfOk result (HandGiven N.made.core pass.new.p) }
     ensures some { IfOk result (λ hand. hand ≢ Idle) }
     ensures ended { OnErr result (open_count pass.new.p.mine ≡ 0) }
     ensures stops { IfErr result (StopsBy (LacksRows Look request.latches)) }
@@ -163,13 +163,13 @@ pub(crate) fn optimistic<N: Making, R: Wait>(
 ) -> Result<Hand, RunFault>
     requires sizes { N.made.sizes ≡ program_sizes }
     requires few { length request.latches ≤ LIMIT }
-    requires table { pass.old.table ≡ N.made.table }
+    requires table { pass.old.table ≡ N.made.core.signals }
     requires idle { open_count pass.old.p.mine ≡ 0 }
     ensures keeps { Keeps pass.old pass.new }
     ensures stands { IfOk result (λ hand. (bs : List Block) (line : ℕ) (policy : IsPolicy) (turns : Option ℕ) (latches : List Latch) →
-        request ≡ declaration_of (new_block line Optimistic policy turns latches) → Standing N.made.table pass.old.p bs Idle →
-        Standing N.made.table pass.new.p (bs ++ new_block line Optimistic policy turns latches ∷ []) hand) }
-    ensures given { IfOk result (HandGiven N.made.table pass.new.p) }
+        request ≡ declaration_of (new_block line Optimistic policy turns latches) → Standing N.made.core pass.old.p bs Idle →
+        Standing N.made.core pass.new.p (bs ++ new_block line Optimistic policy turns latches ∷ []) hand) }
+    ensures given { IfOk result (HandGiven N.made.core pass.new.p) }
     ensures some { IfOk result (λ hand. hand ≢ Idle) }
     ensures ended { OnErr result (open_count pass.new.p.mine ≡ 0) }
     ensures stops { IfErr result (StopsBy (LacksRows Optimistic request.latches)) }
@@ -187,14 +187,14 @@ fn wait_with<N: Making, R: Wait, P: Patience>(
     optimist: Optimist,
     patience: &mut P,
 ) -> Hand
-    requires table { pass.old.table ≡ N.made.table }
-    requires given { HandGiven N.made.table pass.old.p (is_checking optimist) }
+    requires table { pass.old.table ≡ N.made.core.signals }
+    requires given { HandGiven N.made.core pass.old.p (is_checking optimist) }
     ensures keeps { Keeps pass.old pass.new }
     ensures stands { (bs ds : List Block) (c : IsCommand) (turns : Option ℕ) →
         PatienceOf turns (P.refusals patience.old) (P.refusals patience.new) (P.limit patience.old) →
         GrowsBy c bs ds → is_wait c ≡ true → is_poison c ≡ false → TurnsOf bs turns →
-        Standing N.made.table pass.old.p bs (is_checking optimist) → Standing N.made.table pass.new.p ds result }
-    ensures given { HandGiven N.made.table pass.new.p result }
+        Standing N.made.core pass.old.p bs (is_checking optimist) → Standing N.made.core pass.new.p ds result }
+    ensures given { HandGiven N.made.core pass.new.p result }
     ensures some { result ≢ Idle }
 {
     match manager.wait(rt, pass, optimist.into_waiting(), patience) {
@@ -211,13 +211,13 @@ pub(crate) fn wait<N: Making, R: Wait>(
     hand: Hand,
     turns: Option<u32>,
 ) -> Hand
-    requires table { pass.old.table ≡ N.made.table }
-    requires given { HandGiven N.made.table pass.old.p hand }
+    requires table { pass.old.table ≡ N.made.core.signals }
+    requires given { HandGiven N.made.core pass.old.p hand }
     requires turns { SomeTurns turns }
     ensures keeps { Keeps pass.old pass.new }
     ensures stands { (bs ds : List Block) (c : IsCommand) → hand ≢ Idle → GrowsBy c bs ds → is_wait c ≡ true → is_poison c ≡ false → TurnsOf bs turns →
-        Standing N.made.table pass.old.p bs hand → Standing N.made.table pass.new.p ds result }
-    ensures given { HandGiven N.made.table pass.new.p result }
+        Standing N.made.core pass.old.p bs hand → Standing N.made.core pass.new.p ds result }
+    ensures given { HandGiven N.made.core pass.new.p result }
     ensures some { hand ≢ Idle → result ≢ Idle }
 {
     match hand {
@@ -240,12 +240,12 @@ pub(crate) fn check<N: Making, R: Wait>(
     hand: Hand,
     latches: &Latches,
 ) -> Result<Hand, Memory>
-    requires table { pass.old.table ≡ N.made.table }
-    requires given { HandGiven N.made.table pass.old.p hand }
+    requires table { pass.old.table ≡ N.made.core.signals }
+    requires given { HandGiven N.made.core pass.old.p hand }
     ensures keeps { Keeps pass.old pass.new }
     ensures stands { IfOk result (λ next. (bs ds : List Block) (name : List ℕ) → hand ≢ Idle → GrowsBy (is_check_of name latches.now) bs ds →
-        Standing N.made.table pass.old.p bs hand → Standing N.made.table pass.new.p ds next) }
-    ensures given { IfOk result (HandGiven N.made.table pass.new.p) }
+        Standing N.made.core pass.old.p bs hand → Standing N.made.core pass.new.p ds next) }
+    ensures given { IfOk result (HandGiven N.made.core pass.new.p) }
     ensures some { IfOk result (λ next. hand ≢ Idle → next ≢ Idle) }
     ensures ended { OnErr result (open_count pass.new.p.mine ≡ 0) }
 {
@@ -259,11 +259,11 @@ pub(crate) fn check<N: Making, R: Wait>(
 }
 
 fn check_these<N: Making>(manager: &Manager<N>, hand: Hand, asked: Latches) -> Hand
-    requires board { HandAt N.made.table hand }
+    requires core { HandAt N.made.core hand }
     ensures stands { (p : PassView) (bs ds : List Block) (name : List ℕ) → hand ≢ Idle → GrowsBy (is_check_of name asked) bs ds →
-        Standing N.made.table p bs hand →
-        Standing N.made.table p ds result }
-    ensures given { (p : PassView) → HandGiven N.made.table p hand → HandGiven N.made.table p result }
+        Standing N.made.core p bs hand →
+        Standing N.made.core p ds result }
+    ensures given { (p : PassView) → HandGiven N.made.core p hand → HandGiven N.made.core p result }
     ensures some { hand ≢ Idle → result ≢ Idle }
 {
     match hand {
@@ -279,10 +279,10 @@ fn check_these<N: Making>(manager: &Manager<N>, hand: Hand, asked: Latches) -> H
 
 /// The request in hand is poisoned, and who waits for it is woken. One that is over stays as it is.
 pub(crate) fn poison<N: Making, R: Wait>(rt: &R, manager: &Manager<N>, hand: Hand) -> Hand
-    requires board { HandAt N.made.table hand }
-    ensures stands { (p : PassView) (bs ds : List Block) (name : List ℕ) → hand ≢ Idle → GrowsBy (is_poison_of name) bs ds → Standing N.made.table p bs hand →
-        Standing N.made.table p ds result }
-    ensures given { (p : PassView) → HandGiven N.made.table p hand → HandGiven N.made.table p result }
+    requires core { HandAt N.made.core hand }
+    ensures stands { (p : PassView) (bs ds : List Block) (name : List ℕ) → hand ≢ Idle → GrowsBy (is_poison_of name) bs ds → Standing N.made.core p bs hand →
+        Standing N.made.core p ds result }
+    ensures given { (p : PassView) → HandGiven N.made.core p hand → HandGiven N.made.core p result }
     ensures some { hand ≢ Idle → result ≢ Idle }
 {
     match hand {
@@ -303,11 +303,11 @@ pub(crate) fn poison<N: Making, R: Wait>(rt: &R, manager: &Manager<N>, hand: Han
 
 /// The request in hand ends: a granted one as it was granted, an optimistic one by the check that passed, if one stands.
 pub(crate) fn release<N: Making, R: Wait>(rt: &R, manager: &Manager<N>, pass: &mut Pass, hand: Hand)
-    requires table { pass.old.table ≡ N.made.table }
-    requires given { HandGiven N.made.table pass.old.p hand }
+    requires table { pass.old.table ≡ N.made.core.signals }
+    requires given { HandGiven N.made.core pass.old.p hand }
     ensures keeps { Keeps pass.old pass.new }
-    ensures stands { (bs ds : List Block) (name : List ℕ) → hand ≢ Idle → GrowsBy (is_release_of name) bs ds → Standing N.made.table pass.old.p bs hand →
-        Standing N.made.table pass.new.p ds Idle }
+    ensures stands { (bs ds : List Block) (name : List ℕ) → hand ≢ Idle → GrowsBy (is_release_of name) bs ds → Standing N.made.core pass.old.p bs hand →
+        Standing N.made.core pass.new.p ds Idle }
     ensures same { hand ≡ Idle → pass.new ≡ pass.old }
     ensures idle { open_count pass.new.p.mine ≡ 0 }
 {

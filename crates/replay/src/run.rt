@@ -7,6 +7,7 @@ ghost use Rattle.script.specs.Scripts.{IsScript};
 ghost use Rattle.script.specs.declared.command.Command.{Command};
 ghost use Rattle.sequence_core.specs.Says.{AreFresh, RefusesNew};
 ghost use Rattle.step_run.specs.Faults.{ScriptLacks, StopsBy};
+ghost use Rattle.waiter.specs.Says.{id_of};
 ghost use Rattle.replay.specs.Running.{FollowsIn, Fresh, Rested, lane_numbers, program_sizes, whos};
 
 use crate::crew::crew;
@@ -44,9 +45,9 @@ pub fn sessions<N: Making + Send + Sync, G: Gate, R: Threads + Wait + Sync>(
     gate: &G,
 ) -> Result<(), RunFault>
     requires sizes { N.made.sizes ≡ program_sizes }
-    requires passes { AreFresh N.made.table 64 passes.old }
+    requires passes { AreFresh N.made.core.signals 64 passes.old }
     ensures whos { whos passes.new ≡ whos passes.old }
-    ensures rested { All (Rested N.made.table) passes.new }
+    ensures rested { All (Rested N.made.core.signals) passes.new }
     ensures follows { OnOk result (All (FollowsIn script.now) passes.new) }
     ensures stops { IfErr result (StopsBy (ScriptLacks script.now)) }
 {
@@ -63,14 +64,14 @@ fn within<N: Making + Send + Sync, G: Gate, R: Threads + Wait + Sync>(
     passes: &mut Vec<Pass>,
     gate: &G,
 ) -> (Core, Desk, Result<(), RunFault>)
-    requires core { (core.board.table ≡ N.made.table) × (core.board.sizes ≡ N.made.sizes) }
-    requires desk { (desk.table ≡ N.made.table) × (desk.sizes ≡ N.made.sizes) }
+    requires core { (id_of core ≡ N.made.core) × (core.board.sizes ≡ N.made.sizes) }
+    requires desk { (desk.core ≡ N.made.core) × (desk.sizes ≡ N.made.sizes) }
     requires sizes { N.made.sizes ≡ program_sizes }
-    requires passes { AreFresh N.made.table 64 passes.old.items }
-    ensures core { (result.0.board.table ≡ N.made.table) × (result.0.board.sizes ≡ N.made.sizes) }
-    ensures desk { (result.1.table ≡ N.made.table) × (result.1.sizes ≡ N.made.sizes) }
+    requires passes { AreFresh N.made.core.signals 64 passes.old.items }
+    ensures core { (id_of result.0 ≡ N.made.core) × (result.0.board.sizes ≡ N.made.sizes) }
+    ensures desk { (result.1.core ≡ N.made.core) × (result.1.sizes ≡ N.made.sizes) }
     ensures whos { whos passes.new.items ≡ whos passes.old.items }
-    ensures rested { All (Rested N.made.table) passes.new.items }
+    ensures rested { All (Rested N.made.core.signals) passes.new.items }
     ensures follows { OnOk result.2 (All (FollowsIn script.now) passes.new.items) }
     ensures stops { IfErr result.2 (StopsBy (ScriptLacks script.now)) }
 {
@@ -131,10 +132,10 @@ fn refused(fault: NewFault) -> Result<History, RunFault>
 
 // Closes the desk with all its passes.
 fn finish(core: Core, desk: Desk, passes: Vec<Pass>) -> History
-    requires table { desk.table ≡ core.board.table }
+    requires core { desk.core ≡ id_of core }
     requires sizes { desk.sizes ≡ program_sizes }
     requires whos { whos passes.items ≡ lane_numbers 64 }
-    requires rested { All (Rested desk.table) passes.items }
+    requires rested { All (Rested desk.core.signals) passes.items }
     ensures sizes { result.sizes ≡ program_sizes }
     ensures legal { IsLegal result.entries result.sizes }
     ensures closed { (id : ℕ) → is_open result.entries id ≡ false }

@@ -1,6 +1,5 @@
 // The commands of a session, one after another.
 ghost use Rattle.std.specs.Prelude.{◌≡◌, ◌≢◌, ℕ, ◌+◌, ◌<◌, ◌≤◌, ◌^◌, [], ◌∷◌, ◌++◌, List, Option, Some, length, slice_get, IfErr, IfOk, OnOk, OnErr};
-ghost use Rattle.atomic_table.specs.Seated.{TableId};
 ghost use Rattle.latch_model.specs.declared.latch.TheConstants.Latches.{LIMIT};
 ghost use Rattle.script.specs.Follows.{Block, Follows, blocks_of, is_of};
 ghost use Rattle.replay.specs.Blocks.{new_block};
@@ -40,13 +39,13 @@ pub(crate) fn run_command<N: Making, R: Wait>(
     line: u32,
 ) -> Result<Hand, RunFault>
     requires sizes { N.made.sizes ≡ program_sizes }
-    requires table { pass.old.table ≡ N.made.table }
-    requires given { HandGiven N.made.table pass.old.p hand }
+    requires table { pass.old.table ≡ N.made.core.signals }
+    requires given { HandGiven N.made.core pass.old.p hand }
     requires turns { SomeTurns turns }
     requires command { IsFit command.now }
     ensures keeps { Keeps pass.old pass.new }
-    ensures given { IfOk result (HandGiven N.made.table pass.new.p) }
-    ensures ran { IfOk result (λ next. Ran N.made.table line turns command.now pass.old hand pass.new next) }
+    ensures given { IfOk result (HandGiven N.made.core pass.new.p) }
+    ensures ran { IfOk result (λ next. Ran N.made.core line turns command.now pass.old hand pass.new next) }
     ensures tied { IfOk result (NextHand command.now hand) }
     ensures ended { OnErr result (open_count pass.new.p.mine ≡ 0) }
     ensures stops { IfErr result (StopsBy (OpeningLacks command.now)) }
@@ -89,14 +88,14 @@ fn open<N: Making, R: Wait>(
     line: u32,
 ) -> Result<Hand, RunFault>
     requires sizes { N.made.sizes ≡ program_sizes }
-    requires table { pass.old.table ≡ N.made.table }
-    requires given { HandGiven N.made.table pass.old.p hand }
+    requires table { pass.old.table ≡ N.made.core.signals }
+    requires given { HandGiven N.made.core pass.old.p hand }
     requires turns { SomeTurns turns }
     requires few { length latches.now ≤ LIMIT }
     ensures keeps { Keeps pass.old pass.new }
-    ensures given { IfOk result (HandGiven N.made.table pass.new.p) }
-    ensures stands { IfOk result (λ next. (bs : List Block) → hand ≡ Idle → Standing N.made.table pass.old.p bs Idle →
-        Standing N.made.table pass.new.p (bs ++ new_block line mode policy turns latches.now ∷ []) next) }
+    ensures given { IfOk result (HandGiven N.made.core pass.new.p) }
+    ensures stands { IfOk result (λ next. (bs : List Block) → hand ≡ Idle → Standing N.made.core pass.old.p bs Idle →
+        Standing N.made.core pass.new.p (bs ++ new_block line mode policy turns latches.now ∷ []) next) }
     ensures some { IfOk result (λ next. next ≢ Idle) }
     ensures ended { OnErr result (open_count pass.new.p.mine ≡ 0) }
     ensures stops { IfErr result (StopsBy (LacksRows mode latches.now)) }
@@ -122,14 +121,14 @@ fn begin<N: Making, R: Wait>(
     line: u32,
 ) -> Result<Hand, RunFault>
     requires sizes { N.made.sizes ≡ program_sizes }
-    requires table { pass.old.table ≡ N.made.table }
+    requires table { pass.old.table ≡ N.made.core.signals }
     requires idle { open_count pass.old.p.mine ≡ 0 }
     requires turns { SomeTurns turns }
     requires few { length latches.now ≤ LIMIT }
     ensures keeps { Keeps pass.old pass.new }
-    ensures given { IfOk result (HandGiven N.made.table pass.new.p) }
-    ensures stands { IfOk result (λ next. (bs : List Block) → Standing N.made.table pass.old.p bs Idle →
-        Standing N.made.table pass.new.p (bs ++ new_block line mode policy turns latches.now ∷ []) next) }
+    ensures given { IfOk result (HandGiven N.made.core pass.new.p) }
+    ensures stands { IfOk result (λ next. (bs : List Block) → Standing N.made.core pass.old.p bs Idle →
+        Standing N.made.core pass.new.p (bs ++ new_block line mode policy turns latches.now ∷ []) next) }
     ensures some { IfOk result (λ next. next ≢ Idle) }
     ensures ended { OnErr result (open_count pass.new.p.mine ≡ 0) }
     ensures stops { IfErr result (StopsBy (LacksRows mode latches.now)) }
@@ -166,7 +165,7 @@ pub(crate) fn run_session<N: Making, G: Gate, R: Wait>(
     requires script { IsScript commands.now }
     requires few { length commands.now < 2 ^ 31 }
     requires sizes { N.made.sizes ≡ program_sizes }
-    requires fresh { Fresh N.made.table pass.old }
+    requires fresh { Fresh N.made.core.signals pass.old }
     ensures keeps { Keeps pass.old pass.new }
     ensures idle { open_count pass.new.p.mine ≡ 0 }
     ensures own { pass.new.p.mine ≡ own pass.new.p.who pass.new.p.shown }
@@ -180,7 +179,7 @@ pub(crate) fn run_session<N: Making, G: Gate, R: Wait>(
 
 // The pass's entries are its own in what it has been shown.
 fn look_back<N: Making>(manager: &Manager<N>, pass: &mut Pass)
-    requires table { pass.old.table ≡ N.made.table }
+    requires table { pass.old.table ≡ N.made.core.signals }
     ensures pass { (seen : ℕ) × (pass.new ≡ record pass.old { p = record pass.old.p { seen = seen } }) }
     ensures own { pass.old.p.mine ≡ own pass.old.p.who pass.old.p.shown }
 {
@@ -199,10 +198,10 @@ fn run_commands<N: Making, G: Gate, R: Wait>(
     requires script { IsScript commands.now }
     requires few { length commands.now < 2 ^ 31 }
     requires sizes { N.made.sizes ≡ program_sizes }
-    requires fresh { Fresh N.made.table pass.old }
+    requires fresh { Fresh N.made.core.signals pass.old }
     ensures keeps { Keeps pass.old pass.new }
     ensures idle { open_count pass.new.p.mine ≡ 0 }
-    ensures stands { OnOk result (Standing N.made.table pass.new.p (blocks_of commands.now pass.old.p.who) Idle) }
+    ensures stands { OnOk result (Standing N.made.core pass.new.p (blocks_of commands.now pass.old.p.who) Idle) }
     ensures stops { IfErr result (StopsBy (ScriptLacks commands.now)) }
 {
     let who = pass.who();
@@ -238,9 +237,9 @@ fn pass_or_run<N: Making, G: Gate, R: Wait>(
     requires few { length commands.now < 2 ^ 31 }
     requires inside { i < length commands.now }
     requires sizes { N.made.sizes ≡ program_sizes }
-    requires at { IsAt commands.now N.made.table who i pass.old live hand }
+    requires at { IsAt commands.now N.made.core who i pass.old live hand }
     ensures keeps { Keeps pass.old pass.new }
-    ensures at { IfOk result (λ next. IsAt commands.now N.made.table who (i + 1) pass.new next.1 next.0) }
+    ensures at { IfOk result (λ next. IsAt commands.now N.made.core who (i + 1) pass.new next.1 next.0) }
     ensures ended { OnErr result (open_count pass.new.p.mine ≡ 0) }
     ensures stops { IfErr result (StopsBy (ScriptLacks commands.now)) }
 {

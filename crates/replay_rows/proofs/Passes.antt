@@ -9,7 +9,7 @@ use Rattle.replay_rows.specs.Idles.{IsIdle}
 
 -- a desk of the making
 abbrev desk_of : Made → DeskState
-desk_of made = record { table = made.table; sizes = made.sizes; log = []; given = made.sizes.lanes }
+desk_of made = record { core = made.core; sizes = made.sizes; log = []; given = made.sizes.lanes; free = made.sizes.rows }
 
 all_of : (made : Made) (passes : List PassSays) → HasEachPass (desk_of made) passes → HasAllPasses made passes
 all_of made passes h = record { tables = h.tables; idle = h.idle; each = h.each }
@@ -20,7 +20,7 @@ all_two made one two lanes a b =
     all_of made (one ∷ two ∷ [])
     (has_two (desk_of made) one two lanes (record { same = a.0.0; number = a.1; idle = a.0.1 }) (record { same = b.0.0; number = b.1; idle = b.0.1 }))
 
-pub all_fresh : (made : Made) (passes : List PassSays) → AreFresh made.table made.sizes.lanes passes → HasAllPasses made passes
+pub all_fresh : (made : Made) (passes : List PassSays) → AreFresh made.core.signals made.sizes.lanes passes → HasAllPasses made passes
 all_fresh made passes fresh =
     all_of made passes (has_each (desk_of made) passes fresh.as_many (λ i p at.
     let is = fresh.each i p at in

@@ -2,6 +2,7 @@
 ghost use Rattle.std.specs.Prelude.{◌≡◌, ◌<◌, ◌≤◌, ◌+◌, ◌∷◌, ◌++◌, [], vec_len, vec_capacity};
 ghost use Rattle.sequence_core.specs.Says.{AreFresh};
 ghost use Rattle.signal_board.specs.Rule.{open_count};
+ghost use Rattle.waiter.specs.Says.{id_of};
 ghost use Rattle.replay_rows.specs.Idles.{IsIdle, IsOf};
 
 use crate::histories::{ONE_BEGUN, TWO_BEGUN, report_of};
@@ -129,7 +130,7 @@ fn begun<N: Making, R: Wait + Abort>(
 ) -> Waiting
     requires { IsIdle N.made pass.old }
     ensures pass { IsOf N.made pass.old.p.who pass.new }
-    ensures waiting { (result.table ≡ N.made.table) × (result.r.who ≡ pass.old.p.who) }
+    ensures waiting { (result.core ≡ N.made.core) × (result.r.who ≡ pass.old.p.who) }
 {
     match manager.sequence(rt, alloc, pass, request, Mode::Acquire) {
         Ok(opened) => opened.waiting(),
@@ -143,10 +144,10 @@ fn granted<N: Making, R: Wait + Abort>(
     pass: &mut Pass,
     waiting: Waiting,
 ) -> Granted
-    requires pass { pass.old.table ≡ N.made.table }
-    requires waiting { (waiting.table ≡ N.made.table) × (waiting.r.who ≡ pass.old.p.who) }
+    requires pass { pass.old.table ≡ N.made.core.signals }
+    requires waiting { (waiting.core ≡ N.made.core) × (waiting.r.who ≡ pass.old.p.who) }
     ensures pass { IsOf N.made pass.old.p.who pass.new }
-    ensures granted { (result.table ≡ N.made.table) × (result.r.who ≡ pass.old.p.who) }
+    ensures granted { (result.core ≡ N.made.core) × (result.r.who ≡ pass.old.p.who) }
 {
     match manager.wait(rt, pass, waiting, &mut Endless) {
         Ok(granted) => granted,
@@ -155,8 +156,8 @@ fn granted<N: Making, R: Wait + Abort>(
 }
 
 fn released<N: Making, R: Wait>(rt: &R, manager: &Manager<N>, pass: &mut Pass, granted: Granted)
-    requires pass { pass.old.table ≡ N.made.table }
-    requires granted { (granted.table ≡ N.made.table) × (granted.r.who ≡ pass.old.p.who) }
+    requires pass { pass.old.table ≡ N.made.core.signals }
+    requires granted { (granted.core ≡ N.made.core) × (granted.r.who ≡ pass.old.p.who) }
     ensures { IsIdle N.made pass.new × (pass.new.p.who ≡ pass.old.p.who) }
 {
     manager.release(rt, pass, granted);
@@ -295,8 +296,8 @@ fn within<N: Making, R: Wait + Abort>(
     two: Pass,
     deed: Deed,
 ) -> History
-    requires core { (core.board.table ≡ N.made.table) × (core.board.sizes ≡ N.made.sizes) }
-    requires desk { (desk.table ≡ N.made.table) × (desk.sizes ≡ N.made.sizes) }
+    requires core { (id_of core ≡ N.made.core) × (core.board.sizes ≡ N.made.sizes) }
+    requires desk { (desk.core ≡ N.made.core) × (desk.sizes ≡ N.made.sizes) }
     requires lanes { N.made.sizes.lanes ≡ 2 }
     requires one { IsIdle N.made one × (one.p.who ≡ 1) }
     requires two { IsIdle N.made two × (two.p.who ≡ 2) }
@@ -310,7 +311,7 @@ fn within<N: Making, R: Wait + Abort>(
 
 // A desk of two sessions.
 fn two_sessions(rt: &impl Abort, alloc: Global) -> (Core, Desk, Pass, Pass)
-    ensures desk { (result.1.table ≡ result.0.board.table) × (result.1.sizes ≡ result.0.board.sizes) × (result.1.sizes.lanes ≡ 2) }
+    ensures desk { (result.1.core ≡ id_of result.0) × (result.1.sizes ≡ result.0.board.sizes) × (result.1.sizes.lanes ≡ 2) }
     ensures one { (result.2.table ≡ result.0.board.table) × (open_count result.2.p.mine ≡ 0) × (result.2.p.who ≡ 1) }
     ensures two { (result.3.table ≡ result.0.board.table) × (open_count result.3.p.mine ≡ 0) × (result.3.p.who ≡ 2) }
 {
@@ -352,9 +353,9 @@ fn one_begins_in_front_of_the_grant_of_the_other(rt: HostRuntime) -> Result<(), 
 }
 
 fn close_new<N: Making>(core: Core, desk: Desk, passes: Vec<Pass>) -> History
-    requires core { (core.board.table ≡ N.made.table) × (core.board.sizes ≡ N.made.sizes) }
-    requires desk { (desk.table ≡ N.made.table) × (desk.sizes ≡ N.made.sizes) }
-    requires passes { AreFresh N.made.table N.made.sizes.lanes passes.items }
+    requires core { (id_of core ≡ N.made.core) × (core.board.sizes ≡ N.made.sizes) }
+    requires desk { (desk.core ≡ N.made.core) × (desk.sizes ≡ N.made.sizes) }
+    requires passes { AreFresh N.made.core.signals N.made.sizes.lanes passes.items }
 {
     Manager::<N>::new(core, desk).close(passes)
 }

@@ -1,6 +1,7 @@
 // Runs of a script on a manager that the gate sees.
 ghost use Rattle.std.specs.Prelude.{◌≡◌, All};
 ghost use Rattle.sequence_core.specs.Says.{AreFresh};
+ghost use Rattle.waiter.specs.Says.{id_of};
 ghost use Rattle.replay.specs.Running.{Rested, lane_numbers, program_sizes, whos};
 
 use crate::gates::{Hold, Watching};
@@ -36,9 +37,9 @@ fn run_watched<N: Making + Send + Sync, R: Threads + Wait + Sync>(
     watch: &Watch,
 ) -> (Result<(), RunFault>, u64)
     requires sizes { N.made.sizes ≡ program_sizes }
-    requires passes { AreFresh N.made.table 64 passes.old }
+    requires passes { AreFresh N.made.core.signals 64 passes.old }
     ensures whos { whos passes.new ≡ whos passes.old }
-    ensures rested { All (Rested N.made.table) passes.new }
+    ensures rested { All (Rested N.made.core.signals) passes.new }
 {
     let gate = Watching::new(manager, watch.holds, watch.line, watch.held);
     let ran = sessions(rt, alloc, script, manager, passes, &gate);
@@ -55,14 +56,14 @@ fn within<N: Making + Send + Sync, R: Threads + Wait + Sync>(
     passes: &mut Vec<Pass>,
     watch: &Watch,
 ) -> (Core, Desk, Result<(), RunFault>, u64)
-    requires core { (core.board.table ≡ N.made.table) × (core.board.sizes ≡ N.made.sizes) }
-    requires desk { (desk.table ≡ N.made.table) × (desk.sizes ≡ N.made.sizes) }
+    requires core { (id_of core ≡ N.made.core) × (core.board.sizes ≡ N.made.sizes) }
+    requires desk { (desk.core ≡ N.made.core) × (desk.sizes ≡ N.made.sizes) }
     requires sizes { N.made.sizes ≡ program_sizes }
-    requires passes { AreFresh N.made.table 64 passes.old.items }
-    ensures core { (result.0.board.table ≡ N.made.table) × (result.0.board.sizes ≡ N.made.sizes) }
-    ensures desk { (result.1.table ≡ N.made.table) × (result.1.sizes ≡ N.made.sizes) }
+    requires passes { AreFresh N.made.core.signals 64 passes.old.items }
+    ensures core { (id_of result.0 ≡ N.made.core) × (result.0.board.sizes ≡ N.made.sizes) }
+    ensures desk { (result.1.core ≡ N.made.core) × (result.1.sizes ≡ N.made.sizes) }
     ensures whos { whos passes.new.items ≡ whos passes.old.items }
-    ensures rested { All (Rested N.made.table) passes.new.items }
+    ensures rested { All (Rested N.made.core.signals) passes.new.items }
 {
     let manager = Manager::<N>::new(core, desk);
     let (ran, ran_out) = run_watched(rt, alloc, script, &manager, passes.as_mut_slice(), watch);
@@ -71,10 +72,10 @@ fn within<N: Making + Send + Sync, R: Threads + Wait + Sync>(
 }
 
 fn close(core: Core, desk: Desk, passes: Vec<Pass>) -> History
-    requires table { desk.table ≡ core.board.table }
+    requires core { desk.core ≡ id_of core }
     requires sizes { desk.sizes ≡ program_sizes }
     requires whos { whos passes.items ≡ lane_numbers 64 }
-    requires rested { All (Rested desk.table) passes.items }
+    requires rested { All (Rested desk.core.signals) passes.items }
 {
     desk.known();
     desk.close(core, passes)

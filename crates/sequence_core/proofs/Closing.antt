@@ -1,5 +1,11 @@
 -- The passes of a desk are retired one after another.
-use Rattle.std.proofs.Common.{◌≡◌, ◌⊎◌, List, [], ◌∷◌, ◌++◌, refl, sym, ◌∙◌, ap, subst, inl, inr, arith}
+use Rattle.std.proofs.Common.{◌≡◌, ◌⊎◌, ◌==◌, ◌&&◌, ◌||◌, ℕ, Bool, true, false, cond, not, List, [], ◌∷◌, ◌++◌, refl, sym, ◌∙◌, ap, subst, inl, inr, arith}
+use Rattle.std.proofs.lemmas.Bool.{eq-eqb}
+use Rattle.std.proofs.Math.Bool.{or-true}
+use Rattle.std.specs.List.{filter}
+use Rattle.latch_model.specs.Histories.{Begin, begins, has_begun, has_ended, is_open, open_begins}
+use Rattle.latch_model.specs.declared.history.Entry.{Entry}
+use Rattle.latch_model.specs.declared.history.Entry.TheVariants.{Begun, Ended}
 use Rattle.std.proofs.lemmas.List.Elements.{All-contains}
 use Rattle.std.specs.List.{Contains}
 use Rattle.atomic_table.specs.Seated.{TableId}
@@ -9,6 +15,24 @@ use Rattle.signal_board.specs.Rule.{open_count}
 use Rattle.signal_board.specs.Says.{DeskSays, EachRetired, PassSays}
 use Rattle.signal_board.specs.Views.{PassView}
 use Rattle.sequence_core.specs.Says.{DeskState, HasEachPass}
+
+-- Where each request that has begun is closed, none is open.
+begin_has : (h : List Entry) (b : Begin) → In b (begins h) → has_begun h b.id ≡ true
+begin_has [] b there = absurd there
+begin_has (Begun id lane who mode request ∷ es) b there = elim there [
+  | inl e ↦ ap (λ t. t || has_begun es b.id) (eq-eqb id b.id (ap (λ (x : Begin). x.id) e))
+  | inr later ↦ ap (λ t. (id == b.id) || t) (begin_has es b later) ∙ or-true (id == b.id)
+]
+begin_has (Ended id who grant cause fault ∷ es) b there = begin_has es b there
+
+none_open : (p : Begin → Bool) (bs : List Begin) → ((b : Begin) → In b bs → p b ≡ false) → filter p bs ≡ []
+none_open p [] none = refl
+none_open p (b ∷ bs) none =
+    ap (λ t. cond t (b ∷ filter p bs) (filter p bs)) (none b (inl refl)) ∙ none_open p bs (λ x there. none x (inr there))
+
+pub all_closed : (log : List Entry) → ((id : ℕ) → is_open log id ≡ false) → open_begins log ≡ []
+all_closed log closed = none_open (λ b. not (has_ended log b.id)) (begins log) (λ b there.
+    ap (λ t. t && not (has_ended log b.id)) (sym (begin_has log b there)) ∙ closed b.id)
 
 -- A pass that is left.
 pub record IsLeft (table : TableId) (p : PassSays) : Type 0 where
@@ -22,13 +46,13 @@ pub record Retires (table : TableId) (first : DeskSays) (all : List PassSays) (s
   pub each : (p : PassSays) → Contains left p → IsLeft table p
   pub kept : (p : PassSays) → Contains all p → Contains left p ⊎ Contains seat.retired p.p
 
-pub retires_first : (table : TableId) (seat : DeskSays) (d : DeskState) (passes : List PassSays) → seat.table ≡ table → d.table ≡ table →
+pub retires_first : (table : TableId) (seat : DeskSays) (d : DeskState) (passes : List PassSays) → seat.table ≡ table → d.core.signals ≡ table →
     HasEachPass d passes → Retires table seat passes seat passes
 retires_first table seat d passes is same has = record {
   seat_is = refl;
   table_is = is;
   each = λ p there. record {
-    same = All-contains (λ (q : PassSays). q.table ≡ d.table) passes p has.tables there ∙ same;
+    same = All-contains (λ (q : PassSays). q.table ≡ d.core.signals) passes p has.tables there ∙ same;
     idle = All-contains (λ (q : PassSays). open_count q.p.mine ≡ 0) passes p has.idle there;
   };
   kept = λ p there. inl there;

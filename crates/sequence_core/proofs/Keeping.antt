@@ -1,21 +1,16 @@
 -- What is kept stays what the history says, behind a begin and behind an end.
-use Rattle.std.proofs.Common.{◌≡◌, ℕ, suc, ◌==◌, ◌+◌, ◌-◌, ◌<◌, ◌≤◌, Bool, true, false, cond, not, ◌&&◌, ◌||◌, nat_lt, IsTrue, List, slice_index, []}
+use Rattle.std.proofs.Common.{◌≡◌, ℕ, suc, ◌==◌, ◌+◌, ◌-◌, ◌<◌, ◌≤◌, Bool, true, false, not, ◌&&◌, nat_lt, IsTrue, List, slice_index, []}
 use Rattle.std.proofs.Common.{◌∷◌, ◌++◌, length, Some}
 use Rattle.std.proofs.Common.{refl, sym, ◌∙◌, ap, subst, inl, inr, arith}
-use Rattle.std.proofs.Math.Bool.{or-false}
 use Rattle.std.proofs.Math.Seq.{take-append_seam, take-length}
 use Rattle.std.proofs.lemmas.Bool.{and_parts, not-true}
 use Rattle.std.proofs.lemmas.List.{length-append}
-use Rattle.std.proofs.lemmas.List.Folds.{list_any-append}
 use Rattle.std.proofs.lemmas.List.Sums.{count_by-le-length, length-filter}
-use Rattle.std.specs.List.{Contains, list_any}
-use Rattle.span_key.specs.declared.scopes.Scope.{Scope}
-use Rattle.span_key.specs.declared.scopes.Scope.TheVariants.{Global, Local}
+use Rattle.std.specs.List.{Contains}
 use Rattle.latch_model.specs.Declaration.{Declaration}
 use Rattle.latch_model.specs.Histories.{Begin, HeldLatch, begin_with, begins, entry_of, has_begun, has_ended, holds_latches, is_open}
 use Rattle.latch_model.specs.Histories.{latch_count, latches_held, open_begins}
 use Rattle.latch_model.specs.Legal.{IsLegal, IsLegalBegin, IsLegalEnd}
-use Rattle.latch_model.specs.Metrics.{writes_in}
 use Rattle.latch_model.specs.Next.{CanBegin}
 use Rattle.latch_model.specs.declared.history.Cause.{Cause}
 use Rattle.latch_model.specs.declared.history.Entry.{Entry}
@@ -28,37 +23,23 @@ use Rattle.latch_model.specs.declared.latch.Mode.TheVariants.{Acquire, Optimisti
 use Rattle.latch_model.specs.declared.latch.TheConstants.Latches.{LIMIT}
 use Rattle.latch_model.proofs.Appending.{IsLegal-below, last_at, no_end_of_next}
 use Rattle.latch_model.proofs.Counting.{open_begins-begun, open_count}
-use Rattle.latch_model.proofs.Elements.{Each, Each-map, take_whole}
+use Rattle.latch_model.proofs.Elements.{take_whole}
 use Rattle.latch_model.proofs.Growing.{begins-append, begins-end}
 use Rattle.latch_model.proofs.Lists.{Contains-from_In, In, In-from_Contains}
 use Rattle.latch_model.proofs.Members.{In-append_cases}
 use Rattle.signal_board.proofs.Laws.{lane_small}
 use Rattle.sequence_core.specs.Book.{BookSays}
-use Rattle.sequence_core.specs.Kept.{IsKept, last_writer}
-use Rattle.sequence_core.specs.Lanes.{Falls, LanesSays, is_among, least}
-use Rattle.sequence_core.specs.Lists.{inserted, lists_of, others, own_of, without_by}
-use Rattle.sequence_core.specs.Preparing.{AddsBegin, AddsEnd, HasRoom, SameBut, begin_next, kept_new}
+use Rattle.history_latches.specs.Logs.{HoldsLog}
+use Rattle.history_latches.specs.declared.latches.HistoryLatches.{HistoryLatches}
+use Rattle.held_latches.specs.Lists.{others}
+use Rattle.history_latches.proofs.Ending.{held_ended}
+use Rattle.sequence_core.specs.Kept.{IsKept}
+use Rattle.sequence_core.specs.Lanes.{Falls, LanesSays, is_among, lanes_below, least}
+use Rattle.sequence_core.specs.Preparing.{AddsBegin, AddsEnd, HasRoom, SameBut, begin_next}
 use Rattle.sequence_core.specs.Says.{next_begin}
 use Rattle.sequence_core.specs.declared.kept.Kept.{Kept}
 use Rattle.sequence_core.proofs.FreeLanes.{AreFree, free_begun, free_ended, its_lane_taken, last_is_least, last_there}
-use Rattle.sequence_core.proofs.Held.{by_held_if, held_begun, held_below, held_ended, held_if, lists_less, lists_more, own_listed}
 use Rattle.sequence_core.proofs.LaneLists.{among_all, falls_all, falls_front, falls_with, length_all, length_with}
-
--- the last writer behind one more begin
-writer_last : (scope : Scope) (bs : List Begin) (b : Begin) →
-    last_writer scope (bs ++ b ∷ []) ≡ cond (writes_in scope b) b.id (last_writer scope bs)
-writer_last scope [] b = refl
-writer_last scope (x ∷ xs) b =
-    ap (λ n. cond (list_any (writes_in scope) (xs ++ b ∷ [])) n (cond (writes_in scope x) x.id 0)) (writer_last scope xs b)
-    ∙ (ap (λ t. cond t (cond (writes_in scope b) b.id (last_writer scope xs)) (cond (writes_in scope x) x.id 0))
-    (list_any-append (writes_in scope) xs (b ∷ []) ∙ ap (λ t. list_any (writes_in scope) xs || t) (or-false (writes_in scope b)))
-    ∙ pick (list_any (writes_in scope) xs) (writes_in scope b) (last_writer scope xs) b.id (cond (writes_in scope x) x.id 0))
-  where
-    pick : (early now : Bool) (before id first : ℕ) → cond (early || now) (cond now id before) first ≡ cond now id (cond early before first)
-    pick true true before id first = refl
-    pick true false before id first = refl
-    pick false true before id first = refl
-    pick false false before id first = refl
 
 -- a list ends with its last
 last_split : (ns : List ℕ) → 0 < length ns → (front : List ℕ) × (ns ≡ front ++ least ns ∷ [])
@@ -124,8 +105,8 @@ module _ (log : List Entry) (sizes : Sizes) (k : Kept) (legal : IsLegal log size
         by Look f = let e = kept.fit in omega arith
 
   -- behind a begin
-  module _ (b : Begin) (new : Kept) (adds : AddsBegin k b new) (number : b.id ≡ length (begins log) + 1) (room : HasRoom k)
-      (small : length b.request.latches ≤ LIMIT) (now_legal : IsLegal (log ++ entry_of b ∷ []) sizes) where
+  module _ (b : Begin) (number : b.id ≡ length (begins log) + 1) (small : length b.request.latches ≤ LIMIT)
+      (now_legal : IsLegal (log ++ entry_of b ∷ []) sizes) where
     unended : has_ended log b.id ≡ false
     unended = no_end_of_next log sizes b.id legal (omega arith)
 
@@ -135,20 +116,13 @@ module _ (log : List Entry) (sizes : Sizes) (k : Kept) (legal : IsLegal log size
     begun_now : begins (log ++ entry_of b ∷ []) ≡ begins log ++ b ∷ []
     begun_now = begins-append log (entry_of b ∷ [])
 
-    one_lane : length k.free.free ≡ length new.free.free + 1
-    one_lane = ap length adds.free ∙ length-append new.free.free (b.lane ∷ [])
-
-    differ : Each (λ (x : HeldLatch). x.by ≡ b.id → ⊥) (latches_held log)
-    differ = Each-map (λ (x : HeldLatch). x.by ≤ length (begins log)) (λ (x : HeldLatch). x.by ≡ b.id → ⊥) (λ x le e. omega arith) (latches_held log)
-        (held_below log sizes legal)
-
     fits_now : length (latches_held (log ++ entry_of b ∷ [])) ≤ sizes.latches
     fits_now =
         let here : IsLegalBegin (log ++ entry_of b ∷ []) sizes (length log) b.id b.lane = now_legal (length log) (entry_of b) (last_at log (entry_of b)) in
         subst (λ (t : List Entry). length (latches_held t) ≤ sizes.latches)
         (take_whole (log ++ entry_of b ∷ []) (length log + 1) (omega (arith, length-append log (entry_of b ∷ [])))) here.latches_fit
 
-    few_now : (x : Begin) → Contains (begins (log ++ entry_of b ∷ [])) x → length x.request.latches ≤ LIMIT
+    pub few_now : (x : Begin) → Contains (begins (log ++ entry_of b ∷ [])) x → length x.request.latches ≤ LIMIT
     few_now x there = elim (In-append_cases (begins log) (b ∷ []) x (subst (In x) begun_now (In-from_Contains (begins (log ++ entry_of b ∷ [])) x there))) [
       | inl early ↦ kept.few x (Contains-from_In (begins log) x early)
       | inr last ↦ elim last [
@@ -157,12 +131,12 @@ module _ (log : List Entry) (sizes : Sizes) (k : Kept) (legal : IsLegal log size
       ]
     ]
 
-    pub kept_begun : IsKept (log ++ entry_of b ∷ []) sizes new
-    kept_begun = record {
+    pub kept_begun : (new : Kept) → AddsBegin k (entry_of b) b.id b.lane new → HasRoom k → HoldsLog new.held (log ++ entry_of b ∷ []) sizes →
+        IsKept (log ++ entry_of b ∷ []) sizes new
+    kept_begun new adds room holds = record {
       entries = ap (λ (x : BookSays). x.entries) adds.book ∙ ap (λ es. es ++ entry_of b ∷ []) kept.entries;
       room =
           let left : new.book.room ≡ k.book.room - 1 = ap (λ (x : BookSays). x.room) adds.book in
-          let more = room.entries in
           let lanes = kept.lanes in
           let each = kept.each_lane in
           let o = opened in
@@ -174,22 +148,12 @@ module _ (log : List Entry) (sizes : Sizes) (k : Kept) (legal : IsLegal log size
           (subst (λ ns. AreFree ns log sizes.lanes) adds.free kept.free) b refl unended;
       each_lane =
           let o = opened in
-          let l = one_lane in
+          let l : length k.free.free ≡ length new.free.free + 1 = ap length adds.free ∙ length-append new.free.free (b.lane ∷ []) in
           let each = kept.each_lane in
           omega arith;
-      lists =
-          adds.lists
-          ∙ (ap (inserted (own_of b)) kept.lists
-          ∙ (ap (λ ys. inserted ys (lists_of (latches_held log))) (sym (own_listed b))
-          ∙ sym (ap lists_of (held_begun log b unended) ∙ lists_more b.id (latches_held log) (held_if b) differ (by_held_if b))));
+      holds = holds;
       fit = fits_now;
       few = few_now;
-      global_writer =
-          adds.global_writer ∙ (ap (λ n. cond (writes_in Global b) b.id n) kept.global_writer
-          ∙ sym (ap (last_writer Global) begun_now ∙ writer_last Global (begins log) b));
-      local_writer =
-          adds.local_writer ∙ (ap (λ n. cond (writes_in Local b) b.id n) kept.local_writer
-          ∙ sym (ap (last_writer Local) begun_now ∙ writer_last Local (begins log) b));
     }
 
   -- behind an end
@@ -220,8 +184,10 @@ module _ (log : List Entry) (sizes : Sizes) (k : Kept) (legal : IsLegal log size
         let l = kept.lanes in
         (omega arith, omega arith, its_lane_taken log sizes legal id b begun still k.free.free sizes.lanes kept.free)
 
-    pub kept_ended : (new : Kept) → AddsEnd k (Ended id who grant cause fault) id b.lane new → IsKept (log ++ Ended id who grant cause fault ∷ []) sizes new
-    kept_ended new adds = record {
+    pub kept_ended : (new : Kept) → AddsEnd k (Ended id who grant cause fault) b.lane new →
+        HoldsLog new.held (log ++ Ended id who grant cause fault ∷ []) sizes →
+        IsKept (log ++ Ended id who grant cause fault ∷ []) sizes new
+    kept_ended new adds holds = record {
       entries = ap (λ (x : BookSays). x.entries) adds.book ∙ ap (λ es. es ++ Ended id who grant cause fault ∷ []) kept.entries;
       room =
           let left : new.book.room ≡ k.book.room - 1 = ap (λ (x : BookSays). x.room) adds.book in
@@ -240,7 +206,7 @@ module _ (log : List Entry) (sizes : Sizes) (k : Kept) (legal : IsLegal log size
           let c = closed in
           let e = kept.each_lane in
           omega arith;
-      lists = adds.lists ∙ (ap (without_by id) kept.lists ∙ sym (ap lists_of (held_ended log id who grant cause fault) ∙ lists_less id (latches_held log)));
+      holds = holds;
       fit =
           let less : length (others id (latches_held log)) ≤ length (latches_held log) =
           subst (λ n. n ≤ length (latches_held log)) (sym (length-filter (λ (x : HeldLatch). not (x.by == id)) (latches_held log)))
@@ -250,25 +216,25 @@ module _ (log : List Entry) (sizes : Sizes) (k : Kept) (legal : IsLegal log size
           let f = kept.fit in
           omega arith;
       few = λ x there. kept.few x (subst (λ bs. Contains bs x) (begins-end log id who grant cause fault) there);
-      global_writer = adds.global_writer ∙ (kept.global_writer ∙ sym (ap (last_writer Global) (begins-end log id who grant cause fault)));
-      local_writer = adds.local_writer ∙ (kept.local_writer ∙ sym (ap (last_writer Local) (begins-end log id who grant cause fault)));
     }
 
 -- what is kept of the empty history
-pub kept_first : (sizes : Sizes) → IsKept [] sizes (kept_new sizes.lanes)
-kept_first sizes = record {
-  entries = refl;
+pub kept_first : (sizes : Sizes) (k : Kept) → k.book ≡ record { entries = []; room = 0 } → k.begun ≡ 0 →
+    k.free ≡ record { free = lanes_below sizes.lanes; lanes = sizes.lanes } → HoldsLog k.held [] sizes → IsKept [] sizes k
+kept_first sizes k book begun lanes holds = record {
+  entries = ap (λ (x : BookSays). x.entries) book;
   room = omega arith;
-  begun = refl;
-  lanes = refl;
-  falls = falls_all sizes.lanes;
-  free = λ i. among_all sizes.lanes i ∙ by (nat_lt i sizes.lanes);
-  each_lane = let n = length_all sizes.lanes in omega arith;
-  lists = refl;
+  begun = begun;
+  lanes = ap (λ (x : LanesSays). x.lanes) lanes;
+  falls = subst (λ (x : LanesSays). Falls x.free) (sym lanes) (falls_all sizes.lanes);
+  free = subst (λ (x : LanesSays). AreFree x.free [] sizes.lanes) (sym lanes) (λ i. among_all sizes.lanes i ∙ by (nat_lt i sizes.lanes));
+  each_lane =
+      let n = length_all sizes.lanes in
+      let l : length k.free.free ≡ length (lanes_below sizes.lanes) = ap (λ (x : LanesSays). length x.free) lanes in
+      omega arith;
+  holds = holds;
   fit = omega arith;
   few = λ b there. absurd (In-from_Contains [] b there);
-  global_writer = refl;
-  local_writer = refl;
 }
   where
     by : (t : Bool) → t ≡ (t && true)
@@ -285,9 +251,7 @@ kept_same log sizes old new same kept = record {
   falls = subst (λ (x : LanesSays). Falls x.free) (sym same.free) kept.falls;
   free = subst (λ (x : LanesSays). AreFree x.free log sizes.lanes) (sym same.free) kept.free;
   each_lane = subst (λ (x : LanesSays). length x.free + length (open_begins log) ≡ sizes.lanes) (sym same.free) kept.each_lane;
-  lists = same.lists ∙ kept.lists;
+  holds = subst (λ (h : HistoryLatches). HoldsLog h log sizes) (sym same.held) kept.holds;
   fit = kept.fit;
   few = kept.few;
-  global_writer = same.global_writer ∙ kept.global_writer;
-  local_writer = same.local_writer ∙ kept.local_writer;
 }

@@ -1,11 +1,8 @@
 pub mod Inserting
 pub mod LaneLists
-pub mod Order
-pub mod FourLists
-pub mod Held
 pub mod FreeLanes
 pub mod Keeping
-pub mod Counts
+pub mod Entries
 pub mod NextRequest
 pub mod Resting
 pub mod Closing

@@ -1,5 +1,5 @@
 -- The passes of a desk: those that it gave, one after another from the last, and all of them in the order of their numbers.
-use Rattle.std.proofs.Common.{◌≡◌, ℕ, zero, suc, ◌+◌, ◌-◌, List, [], ◌∷◌, ◌++◌, length, slice_get, Some, sym, ◌∙◌, ap, subst, length-append, arith}
+use Rattle.std.proofs.Common.{refl, ◌≡◌, ℕ, zero, suc, ◌+◌, ◌-◌, List, [], ◌∷◌, ◌++◌, length, slice_get, Some, sym, ◌∙◌, ap, subst, length-append, arith}
 use Rattle.std.proofs.lemmas.Option.{get_or_from_slice_get, slice_get_within}
 use Rattle.std.specs.List.{All}
 use Rattle.atomic_table.specs.Seated.{TableId}
@@ -33,7 +33,7 @@ module _ (table : TableId) (n : ℕ) (all front : List PassSays) (p : PassSays) 
 
 -- A pass of a desk, with this number and no open request.
 pub record IsIdlePass (d : DeskState) (who : ℕ) (p : PassSays) : Type 0 where
-  pub same : p.table ≡ d.table
+  pub same : p.table ≡ d.core.signals
   pub number : p.p.who ≡ who
   pub idle : open_count p.p.mine ≡ 0
 
@@ -41,7 +41,7 @@ pub record IsIdlePass (d : DeskState) (who : ℕ) (p : PassSays) : Type 0 where
 pub has_each : (d : DeskState) (passes : List PassSays) → length passes ≡ d.given →
     ((i : ℕ) (p : PassSays) → slice_get passes i ≡ Some p → IsIdlePass d (i + 1) p) → HasEachPass d passes
 has_each d passes many each = record {
-  tables = all (λ (p : PassSays). p.table ≡ d.table) (λ i p at. (each i p at).same);
+  tables = all (λ (p : PassSays). p.table ≡ d.core.signals) (λ i p at. (each i p at).same);
   idle = all (λ (p : PassSays). open_count p.p.mine ≡ 0) (λ i p at. (each i p at).idle);
   each = λ who low high.
       let w = get_below passes (who - 1) (omega arith) in
@@ -53,6 +53,12 @@ has_each d passes many each = record {
     all P h k e lt =
         let w = get_below passes k lt in
         subst P (sym (get_or_from_slice_get passes k w.0 e w.1)) (h k w.0 w.1)
+
+-- those that were just given
+pub has_fresh : (d : DeskState) (table : TableId) (n : ℕ) (passes : List PassSays) → AreFresh table n passes → table ≡ d.core.signals → n ≡ d.given →
+    HasEachPass d passes
+has_fresh d table n passes fresh same given = has_each d passes (fresh.as_many ∙ given) (λ i p at.
+    subst (λ (q : PassSays). IsIdlePass d (i + 1) q) (sym (fresh.each i p at)) (record { same = same; number = refl; idle = refl }))
 
 -- two of them
 pub has_two : (d : DeskState) (one two : PassSays) → d.given ≡ 2 → IsIdlePass d 1 one → IsIdlePass d 2 two → HasEachPass d (one ∷ two ∷ [])

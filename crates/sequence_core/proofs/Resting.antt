@@ -16,80 +16,75 @@ use Rattle.latch_model.specs.declared.latch.Mode.{Mode}
 use Rattle.latch_model.proofs.Appending.{last_or_earlier}
 use Rattle.signal_board.specs.Says.{DeskSays, PassSays}
 use Rattle.sequence_core.specs.Bounds.{bad_size, outside}
-use Rattle.sequence_core.specs.Kept.{Rests}
-use Rattle.sequence_core.specs.Lists.{total}
-use Rattle.sequence_core.specs.Preparing.{AddsEnd, FitsIn, Lacks, SameBut, kept_new}
-use Rattle.sequence_core.specs.Says.{AreFresh, DeskState, HasPlace, Refuses, fresh_pass}
+use Rattle.history_latches.specs.Logs.{HoldsLog, InBounds, free_of}
+use Rattle.sequence_core.specs.Kept.{IsKept, Rests}
+use Rattle.sequence_core.specs.Preparing.{AddsEnd, FitsIn, Lacks, RowsFor, SameBut}
+use Rattle.sequence_core.specs.Says.{AreFresh, DeskState, HasPlace, HasRows, Refuses, fresh_pass}
 use Rattle.sequence_core.specs.declared.fault.SeqFault.{SeqFault}
 use Rattle.sequence_core.specs.declared.fault.SeqFault.TheVariants.{LatchesFull, RowsOut, Memory}
 use Rattle.sequence_core.specs.declared.fault.Which.TheVariants.{Latches, Lanes, Rows}
 use Rattle.sequence_core.specs.declared.kept.Kept.{Kept}
 use Rattle.sequence_core.specs.declared.limits.TheConstants.{MOST_LATCHES, MOST_LANES, FEWEST_ROWS, MOST_ROWS}
-use Rattle.sequence_core.proofs.Counts.{total_is}
-use Rattle.sequence_core.proofs.Keeping.{kept_ended, kept_first, kept_same}
+use Rattle.sequence_core.proofs.Keeping.{kept_ended, kept_same}
 use Rattle.sequence_core.proofs.NextRequest.{held_few}
 
 inside : (low high n : ℕ) → outside low high n ≡ false → (low ≤ n) × (n ≤ high)
 inside low high n e = (grind (arith, nat_tests), grind (arith, nat_tests))
 
 -- sizes of which none is out of bounds
-pub bounds_are : (s : Sizes) → bad_size s ≡ None → (s.latches ≤ MOST_LATCHES) × (1 ≤ s.lanes) × (s.lanes ≤ MOST_LANES)
-bounds_are s e = by (outside 1 MOST_LATCHES s.latches) (outside 1 MOST_LANES s.lanes) (outside FEWEST_ROWS MOST_ROWS s.rows) refl refl e
+pub in_bounds : (s : Sizes) → bad_size s ≡ None → InBounds s
+in_bounds s e = by (outside 1 MOST_LATCHES s.latches) (outside 1 MOST_LANES s.lanes) (outside FEWEST_ROWS MOST_ROWS s.rows) refl refl refl e
   where
-    by : (a b r : Bool) → outside 1 MOST_LATCHES s.latches ≡ a → outside 1 MOST_LANES s.lanes ≡ b →
-        cond a (Some Latches) (cond b (Some Lanes) (cond r (Some Rows) None)) ≡ None → (s.latches ≤ MOST_LATCHES) × (1 ≤ s.lanes) × (s.lanes ≤ MOST_LANES)
-    by true b r f g h = cc
-    by false true r f g h = cc
-    by false false r f g h =
+    by : (a b r : Bool) → outside 1 MOST_LATCHES s.latches ≡ a → outside 1 MOST_LANES s.lanes ≡ b → outside FEWEST_ROWS MOST_ROWS s.rows ≡ r →
+        cond a (Some Latches) (cond b (Some Lanes) (cond r (Some Rows) None)) ≡ None → InBounds s
+    by true b r f g h n = cc
+    by false true r f g h n = cc
+    by false false true f g h n = cc
+    by false false false f g h n =
         let latches = inside 1 MOST_LATCHES s.latches f in
         let lanes = inside 1 MOST_LANES s.lanes g in
-        (latches.1, lanes.0, lanes.1)
+        let rows = inside FEWEST_ROWS MOST_ROWS s.rows h in
+        record { latches = latches.1; lanes = lanes.1; rows = (omega arith, rows.1) }
 
 module _ (seat : DeskSays) (sizes : Sizes) (k : Kept) (rests : Rests seat sizes k) where
-  bounds : (sizes.latches ≤ MOST_LATCHES) × (1 ≤ sizes.lanes) × (sizes.lanes ≤ MOST_LANES)
-  bounds = bounds_are sizes rests.bounds
+  bounds : InBounds sizes
+  bounds = in_bounds sizes rests.bounds
 
-  -- as many latches are held as the lists have
-  pub total_held : total k.lists.lists ≡ length (latches_held seat.log)
-  total_held = ap total rests.kept.lists ∙ total_is (latches_held seat.log)
-
-  pub held_small : total k.lists.lists < 2 ^ 16
+  pub held_small : length (latches_held seat.log) < 2 ^ 16
   held_small =
       let fit = rests.kept.fit in
-      let is = total_held in
-      let b = bounds in
+      let b = bounds.latches in
       omega arith
 
   pub lanes_small : (length k.free.free ≤ k.free.lanes) × (k.free.lanes < 2 ^ 16)
   lanes_small =
       let each = rests.kept.each_lane in
       let same = rests.kept.lanes in
-      let b = bounds in
+      let b = bounds.lanes in
       (omega arith, omega arith)
 
   -- why a request can't begin, said of the history
   pub refuses : (mode : Mode) (ls : List Latch) (fault : SeqFault) (state : DeskState) → state.log ≡ seat.log → state.sizes ≡ sizes →
-      length (open_begins seat.log) < sizes.lanes → Lacks sizes.latches mode (total k.lists.lists) (length ls) fault → Refuses state mode ls fault
-  refuses mode ls fault state logs same left lacks =
-      subst (λ (x : List Entry × Sizes). Refuses (record state { log = x.0; sizes = x.1 }) mode ls fault) (λ i. (sym logs i, sym same i)) (by fault lacks)
+      state.free ≡ free_of k.held → length (open_begins seat.log) < sizes.lanes →
+      Lacks sizes.latches mode (length (latches_held seat.log)) (free_of k.held) ls fault → Refuses state mode ls fault
+  refuses mode ls fault state logs same free left lacks =
+      subst (λ (x : List Entry × Sizes × ℕ). Refuses (record state { log = x.0; sizes = x.1; free = x.2 }) mode ls fault)
+      (λ i. (sym logs i, sym same i, sym free i)) (by fault lacks)
     where
-      by : (f : SeqFault) → Lacks sizes.latches mode (total k.lists.lists) (length ls) f → Refuses (record state { log = seat.log; sizes = sizes }) mode ls f
+      by : (f : SeqFault) → Lacks sizes.latches mode (length (latches_held seat.log)) (free_of k.held) ls f →
+          Refuses (record state { log = seat.log; sizes = sizes; free = free_of k.held }) mode ls f
       by (LatchesFull held asked) l =
           let few = held_few seat.log sizes k rests.kept in
-          let is = total_held in
           let h = l.1 in
-          (l.0, h ∙ is, l.2, let a = l.2 in let over = l.3 in omega arith, omega arith)
-      by (RowsOut free need) l = absurd l
-      by Memory l = λ holds. let fits = l holds in let is = total_held in omega arith
+          (l.0, h, l.2, let a = l.2 in let over = l.3 in omega arith, omega arith)
+      by (RowsOut free need) l = (l.0, l.2, (l.1, l.3, let f = l.2 in let over = l.4 in omega arith))
+      by Memory l = l
 
-  pub has_place : (mode : Mode) (ls : List Latch) (state : DeskState) → state.log ≡ seat.log → state.sizes ≡ sizes →
-      FitsIn sizes.latches mode (total k.lists.lists) (length ls) → HasPlace state mode ls
-  has_place mode ls state logs same fits holds =
-      let f = fits holds in
-      let is = total_held in
-      let same_held : length (latches_held state.log) ≡ length (latches_held seat.log) = ap (λ (l : List Entry). length (latches_held l)) logs in
-      let same_size : state.sizes.latches ≡ sizes.latches = ap (λ (s : Sizes). s.latches) same in
-      omega arith
+  pub has_place : (mode : Mode) (ls : List Latch) (state : DeskState) → state.log ≡ seat.log → state.sizes ≡ sizes → state.free ≡ free_of k.held →
+      FitsIn sizes.latches mode (length (latches_held seat.log)) (length ls) × RowsFor mode (free_of k.held) ls → HasPlace state mode ls × HasRows state mode ls
+  has_place mode ls state logs same free fits =
+      subst (λ (x : List Entry × Sizes × ℕ). HasPlace (record state { log = x.0; sizes = x.1; free = x.2 }) mode ls
+      × HasRows (record state { log = x.0; sizes = x.1; free = x.2 }) mode ls) (λ i. (sym logs i, sym same i, sym free i)) fits
 
   pub rests_same : (new : Kept) → SameBut k new → Rests seat sizes new
   rests_same new same = record {
@@ -102,9 +97,10 @@ module _ (seat : DeskSays) (sizes : Sizes) (k : Kept) (rests : Rests seat sizes 
 
   -- behind an end
   pub rests_ended : (id who : ℕ) (grant : Grant) (cause : Cause) (fault : Fault) (b : Begin) → begin_with seat.log id ≡ Some b →
-      IsLegal (seat.log ++ Ended id who grant cause fault ∷ []) seat.sizes → (new : Kept) → AddsEnd k (Ended id who grant cause fault) id b.lane new →
+      IsLegal (seat.log ++ Ended id who grant cause fault ∷ []) seat.sizes → (new : Kept) → AddsEnd k (Ended id who grant cause fault) b.lane new →
+      HoldsLog new.held (seat.log ++ Ended id who grant cause fault ∷ []) sizes →
       Rests (record seat { log = seat.log ++ Ended id who grant cause fault ∷ [] }) sizes new
-  rests_ended id who grant cause fault b begun legal new adds =
+  rests_ended id who grant cause fault b begun legal new adds holds =
       let now : IsLegal (seat.log ++ Ended id who grant cause fault ∷ []) sizes =
       subst (λ (s : Sizes). IsLegal (seat.log ++ Ended id who grant cause fault ∷ []) s) rests.same_sizes legal in
       record {
@@ -112,7 +108,7 @@ module _ (seat : DeskSays) (sizes : Sizes) (k : Kept) (rests : Rests seat sizes 
         same_sizes = rests.same_sizes;
         given = rests.given;
         legal = now;
-        kept = kept_ended seat.log sizes k rests.legal rests.kept id who grant cause fault b begun now new adds;
+        kept = kept_ended seat.log sizes k rests.legal rests.kept id who grant cause fault b begun now new adds holds;
       }
 
 -- The passes of a new desk, one after another.
@@ -128,12 +124,12 @@ fresh_next table n passes next p fresh is last = record {
 
 -- a new desk
 pub rests_first : (table : TableId) (seat : DeskSays) (sizes : Sizes) (k : Kept) → bad_size sizes ≡ None →
-    seat ≡ record { table = table; sizes = sizes; log = []; given = sizes.lanes; retired = [] } → k ≡ kept_new sizes.lanes → Rests seat sizes k
-rests_first table seat sizes k bounds is new =
-    subst (λ (x : DeskSays × Kept). Rests x.0 sizes x.1) (λ i. (sym is i, sym new i)) (record {
+    seat ≡ record { table = table; sizes = sizes; log = []; given = sizes.lanes; retired = [] } → IsKept [] sizes k → Rests seat sizes k
+rests_first table seat sizes k bounds is kept =
+    subst (λ (x : DeskSays). Rests x sizes k) (sym is) (record {
       bounds = bounds;
       same_sizes = refl;
       given = refl;
       legal = λ n e at. cc;
-      kept = kept_first sizes;
+      kept = kept;
     })

@@ -3,6 +3,5 @@ pub mod Says
 pub mod Counted
 pub mod Lanes
 pub mod Book
-pub mod Lists
 pub mod Kept
 pub mod Preparing

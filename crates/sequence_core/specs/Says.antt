@@ -11,7 +11,7 @@ use Rattle.latch_model.specs.declared.latch.Latch.{Latch}
 use Rattle.latch_model.specs.declared.latch.Mode.{Mode}
 use Rattle.signal_board.specs.Rule.{open_count}
 use Rattle.signal_board.specs.Says.{PassSays}
-use Rattle.waiter.specs.Says.{EndingSays}
+use Rattle.waiter.specs.Says.{CoreId, EndingSays}
 use Rattle.sequence_core.specs.Bounds.{bad_size}
 use Rattle.sequence_core.specs.declared.fault.NewFault.{NewFault}
 use Rattle.sequence_core.specs.declared.fault.NewFault.TheVariants as new_fault
@@ -19,16 +19,17 @@ use Rattle.sequence_core.specs.declared.fault.SeqFault.{SeqFault}
 use Rattle.sequence_core.specs.declared.fault.SeqFault.TheVariants as seq_fault
 use Rattle.sequence_core.specs.declared.limits.TheConstants.{LATCH_ROWS}
 
--- A desk: its board, the sizes of its history, the history, and how many passes it gave.
+-- A desk: its core, the sizes of its history, the history, how many passes it gave, and how many rows are free for the latches of further requests.
 pub record DeskState : Type 0 where
-  pub table : TableId
+  pub core : CoreId
   pub sizes : Sizes
   pub log : List Entry
   pub given : ℕ
+  pub free : ℕ
 
--- The desk after one more entry.
-abbrev pub logs : Entry → DeskState → DeskState
-logs e d = record d { log = d.log ++ e ∷ [] }
+-- The desk after one more entry, with so many free rows.
+abbrev pub logs : Entry → ℕ → DeskState → DeskState
+logs e free d = record d { log = d.log ++ e ∷ []; free = free }
 
 -- The begin of the next request: the next number, and the least lane that no open request has.
 abbrev pub next_begin : List Entry → ℕ → Mode → Declaration → Begin
@@ -49,12 +50,16 @@ HasPlace d mode ls = IsTrue (holds_latches mode) → length (latches_held d.log)
 abbrev pub rows_for : List Latch → ℕ
 rows_for ls = LATCH_ROWS * length ls
 
--- The rows for the latches of a request are more than are free. A look needs none.
+-- The rows for the latches of a request are free. A look needs none.
+abbrev pub HasRows : DeskState → Mode → List Latch → Type 0
+HasRows d mode ls = IsTrue (holds_latches mode) → rows_for ls ≤ d.free
+
+-- They are more than are free.
 abbrev pub LacksRows : Mode → List Latch → ℕ → ℕ → Type 0
 LacksRows mode ls free need = IsTrue (holds_latches mode) × (need ≡ rows_for ls) × (free < need)
 
 -- Why a request doesn't begin: as many latches are held, as many are asked for, and together they are too many, while the other lanes
--- could hold as many; or rows, where there is place; or memory, where there is place.
+-- could hold as many; or rows, where there is place; or memory, where there are place and rows.
 abbrev pub Refuses : DeskState → Mode → List Latch → SeqFault → Type 0
 Refuses d mode ls (seq_fault.LatchesFull held asked) =
     IsTrue (holds_latches mode)
@@ -62,8 +67,8 @@ Refuses d mode ls (seq_fault.LatchesFull held asked) =
     × (asked ≡ length ls)
     × (d.sizes.latches < held + asked)
     × (held ≤ 16 * (d.sizes.lanes - 1))
-Refuses d mode ls (seq_fault.RowsOut free need) = HasPlace d mode ls × LacksRows mode ls free need
-Refuses d mode ls seq_fault.Memory = HasPlace d mode ls
+Refuses d mode ls (seq_fault.RowsOut free need) = HasPlace d mode ls × (free ≡ d.free) × LacksRows mode ls free need
+Refuses d mode ls seq_fault.Memory = HasPlace d mode ls × HasRows d mode ls
 
 -- Why a desk isn't made: the first of the sizes that is out of its bounds; or memory, where none is.
 abbrev pub RefusesNew : Sizes → NewFault → Type 0
@@ -81,6 +86,6 @@ pub record AreFresh (table : TableId) (lanes : ℕ) (passes : List PassSays) : T
 
 -- All passes of a desk, each without an open request.
 pub record HasEachPass (d : DeskState) (passes : List PassSays) : Type 0 where
-  pub tables : All (λ p. p.table ≡ d.table) passes
+  pub tables : All (λ p. p.table ≡ d.core.signals) passes
   pub idle : All (λ p. open_count p.p.mine ≡ 0) passes
   pub each : (who : ℕ) → 0 < who → who ≤ d.given → (p : PassSays) × Contains passes p × (p.p.who ≡ who)

@@ -1,103 +1,72 @@
 // What a desk keeps beside its seat.
-ghost use Rattle.std.specs.Prelude.{◌≡◌, ◌+◌, ◌≤◌, ◌<◌, ◌^◌, ◌*◌, ◌-◌, if◌then◌else◌, length, IfErr, IfOk, OnOk};
-ghost use Rattle.latch_model.specs.Histories.{entry_of};
-ghost use Rattle.sequence_core.specs.Lanes.{Falls, least};
-ghost use Rattle.sequence_core.specs.Lists.{AreOrdered, own_from, own_of, total};
-ghost use Rattle.sequence_core.specs.Preparing.{AddsBegin, AddsEnd, HasRoom, IsPrepared, SameBut, begin_in, begin_next, kept_new};
+ghost use Rattle.std.specs.Prelude.{◌≡◌, ℕ, ◌+◌, ◌*◌, ◌≤◌, ◌<◌, ◌^◌, List, [], ◌∷◌, ◌++◌, length, IfOk, OnOk};
+ghost use Rattle.latch_model.specs.Histories.{Begin, entry_of, open_begins, shot};
+ghost use Rattle.latch_model.specs.declared.history.Entry.{Entry as AnyEntry};
+ghost use Rattle.latch_model.specs.declared.history.Sizes.{Sizes as TheSizes};
+ghost use Rattle.latch_shots.specs.Shots.{AreShots, IsReturned, table_of as shots_table};
+ghost use Rattle.history_latches.specs.Logs.{HoldsLog, InBounds, IsBeginOf, MayBegin, MayEnd, free_of, table_of, to_hold};
+ghost use Rattle.sequence_core.specs.Lanes.{Falls, lanes_below, least};
+ghost use Rattle.sequence_core.specs.Preparing.{AddsBegin, AddsEnd, HasRoom, SameBut, begin_next};
 
 use crate::book::Book;
 use crate::lanes::FreeLanes;
-use crate::lists::{HeldLists, has_write};
-use latch_model::history::Entry;
-use latch_model::latch::{Latch, Latches, Mode};
-use latch_model::prerequisites::holds;
+use history_latches::HistoryLatches;
+use latch_model::history::{Entry, Sizes};
+use latch_model::latch::{Latch, Mode};
 use latch_model::request::Request;
-use span_key::{Memory, Scope, SpanRoom};
+use latch_shots::{Returned, Shots};
+use row_pool::Rows;
+use span_key::{Memory, SpanRoom};
 use std::alloc::Global;
-use waiter::{Captured, HeldLatch};
 
-/// The entries, how many requests have begun, the free lanes, the held latches, and for each scope the number of the last request that
-/// declared a write in it.
-#[derive(Drop)]
+/// The entries, how many requests have begun, the free lanes, and the held latches. It must be spent.
 pub(crate) struct Kept {
     pub(crate) book: Book,
     pub(crate) begun: u64,
     pub(crate) free: FreeLanes,
-    pub(crate) lists: HeldLists,
-    pub(crate) global_writer: u64,
-    pub(crate) local_writer: u64,
+    pub(crate) held: HistoryLatches,
 }
 
-/// All that a begin takes memory for: the request once more, its snapshot, its latches and room for a mark.
+/// What a begin takes memory for beside its entries: the request once more, and room for a mark.
 #[derive(Drop)]
 pub(crate) struct Prepared {
     pub(crate) copy: Request,
-    pub(crate) shot: Captured,
-    pub(crate) own: Vec<HeldLatch>,
     pub(crate) mark: SpanRoom,
 }
 
 impl Kept {
-    /// What is kept of the empty history.
-    pub(crate) fn new(alloc: Global, lanes: u32) -> Result<Kept, Memory>
-        ensures { IfOk result (λ kept. kept ≡ kept_new lanes) }
+    /// What is kept of the empty history, and the rows for what is held.
+    pub(crate) fn new(alloc: Global, sizes: &Sizes) -> Result<(Rows, Kept), Memory>
+        requires { InBounds sizes.now }
+        ensures book { IfOk result (λ made. made.1.book ≡ record { entries = []; room = 0 }) }
+        ensures begun { IfOk result (λ made. made.1.begun ≡ 0) }
+        ensures lanes { IfOk result (λ made. made.1.free ≡ record { free = lanes_below sizes.now.lanes; lanes = sizes.now.lanes }) }
+        ensures held { IfOk result (λ made. HoldsLog made.1.held [] sizes.now × (table_of made.1.held ≡ made.0)) }
     {
-        Ok(Kept {
+        let free = FreeLanes::new(alloc, sizes.lanes)?;
+        let (rows, held) = HistoryLatches::new(alloc, sizes)?;
+        let kept = Kept {
             book: Book::new(alloc),
             begun: 0,
-            free: FreeLanes::new(alloc, lanes)?,
-            lists: HeldLists::new(alloc),
-            global_writer: 0,
-            local_writer: 0,
-        })
+            free,
+            held,
+        };
+        Ok((rows, kept))
     }
 
-    /// Takes room for both entries of one more request, and for its latches.
-    pub(crate) fn make_room(&mut self) -> Result<(), Memory>
+    /// Takes all memory for one more request of this declaration: room for both entries beside the ends of those that are open, and for a mark.
+    pub(crate) fn prepare(&mut self, alloc: Global, request: &Request) -> Result<Prepared, Memory>
         requires lanes { (length self.old.free.free ≤ self.old.free.lanes) × (self.old.free.lanes < 2 ^ 16) }
         ensures same { SameBut self.old self.new }
+        ensures copy { IfOk result (λ prepared. prepared.copy ≡ request.now) }
         ensures room { OnOk result (HasRoom self.new) }
     {
         let taken = self.free.taken();
         self.book.make_room(taken + 2)?;
-        self.lists.make_room(Latches::LIMIT)
-    }
-
-    /// What is prepared for the next begin.
-    pub(crate) fn prepare(
-        &self,
-        alloc: Global,
-        request: &Request,
-        mode: Mode,
-    ) -> Result<Prepared, Memory>
-        requires lanes { 0 < length self.now.free.free }
-        requires number { self.now.begun + 1 < 2 ^ 64 }
-        ensures { IfOk result (IsPrepared self.now mode request.now) }
-    {
         Ok(Prepared {
             copy: request.share()?,
-            shot: self.lists.capture(alloc, request.latches().list())?,
-            own: self.own_latches(alloc, request, mode)?,
             mark: SpanRoom::roomy(alloc)?,
         })
-    }
-
-    // The latches that the next begin adds.
-    fn own_latches(
-        &self,
-        alloc: Global,
-        request: &Request,
-        mode: Mode,
-    ) -> Result<Vec<HeldLatch>, Memory>
-        requires lanes { 0 < length self.now.free.free }
-        requires number { self.now.begun + 1 < 2 ^ 64 }
-        ensures { IfOk result (λ own. own.items ≡ own_of (begin_next self.now 0 mode request.now)) }
-    {
-        if holds(mode) {
-            latches_of(alloc, self.begun + 1, self.free.least(), request)
-        } else {
-            Ok(Vec::new(alloc))
-        }
     }
 
     /// The entry of the next begin.
@@ -115,56 +84,79 @@ impl Kept {
         }
     }
 
-    /// Keeps the next begin.
-    pub(crate) fn add_begin(&mut self, entry: Entry, latches: &[Latch], own: Vec<HeldLatch>)
-        requires entry { entry ≡ entry_of (begin_in entry) }
-        requires latches { latches.now ≡ (begin_in entry).request.latches }
-        requires own { own.items ≡ own_of (begin_in entry) }
-        requires id { (begin_in entry).id ≡ self.old.begun + 1 }
+    /// Keeps the next begin, of a request of these latches. It captures what is held.
+    pub(crate) fn add_begin(
+        &mut self,
+        rows: &Rows,
+        entry: Entry,
+        latches: &[Latch],
+        mode: Mode,
+    ) -> Shots
+        requires table { table_of self.old.held ≡ rows.now }
         requires number { self.old.begun + 1 < 2 ^ 64 }
-        requires lane { (begin_in entry).lane ≡ least self.old.free.free }
         requires lanes { 0 < length self.old.free.free }
-        requires room { (0 < self.old.book.room) × (length own.items ≤ self.old.lists.room) }
-        requires ordered { AreOrdered self.old.lists.lists }
-        ensures { AddsBegin self.old (begin_in entry) self.new }
+        requires room { 0 < self.old.book.room }
+        requires may { (log : List AnyEntry) × (sizes : TheSizes) × (b : Begin) × MayBegin self.old.held log sizes b
+            × IsBeginOf b (self.old.begun + 1) (least self.old.free.free) latches.now mode }
+        requires rows { 13 * length (to_hold mode latches.now) ≤ free_of self.old.held }
+        ensures table { table_of self.new.held ≡ table_of self.old.held }
+        ensures shots_table { shots_table result ≡ table_of self.old.held }
+        ensures adds { AddsBegin self.old entry (self.old.begun + 1) (least self.old.free.free) self.new }
+        ensures holds { (log : List AnyEntry) (sizes : TheSizes) (b : Begin) → MayBegin self.old.held log sizes b
+            → IsBeginOf b (self.old.begun + 1) (least self.old.free.free) latches.now mode → HoldsLog self.new.held (log ++ entry_of b ∷ []) sizes }
+        ensures shots { (log : List AnyEntry) (sizes : TheSizes) (b : Begin) → MayBegin self.old.held log sizes b
+            → IsBeginOf b (self.old.begun + 1) (least self.old.free.free) latches.now mode → AreShots result (shot (log ++ entry_of b ∷ []) b.id) }
+        ensures free { free_of self.old.held ≤ free_of self.new.held + 13 * length (to_hold mode latches.now) }
     {
-        self.begun += 1;
+        let id = self.begun + 1;
+        let lane = self.free.least();
+        self.begun = id;
         self.book.add(entry);
         self.free.take();
-        if has_write(latches, Scope::Global) {
-            self.global_writer = self.begun;
-        }
-        if has_write(latches, Scope::Local) {
-            self.local_writer = self.begun;
-        }
-        self.lists.insert_all(own);
+        self.held.begin(rows, id, lane, latches, mode)
     }
 
-    /// Keeps the end of a request.
-    pub(crate) fn add_end(&mut self, entry: Entry, id: u64, lane: u32)
+    /// Keeps the end of a request of these latches. What it captured comes back, closed.
+    pub(crate) fn add_end(
+        &mut self,
+        rows: &Rows,
+        entry: Entry,
+        id: u64,
+        lane: u32,
+        latches: &[Latch],
+        mode: Mode,
+        returned: Returned,
+    )
+        requires table { table_of self.old.held ≡ rows.now }
         requires room { (0 < self.old.book.room) × (length self.old.free.free < self.old.free.lanes) }
         requires falls { Falls self.old.free.free }
-        ensures { AddsEnd self.old entry id lane self.new }
+        requires may { (log : List AnyEntry) × (sizes : TheSizes) × (b : Begin) × MayEnd self.old.held log sizes entry b
+            × IsBeginOf b id lane latches.now mode }
+        requires returned { (number : ℕ) × IsReturned rows.now number returned }
+        ensures table { table_of self.new.held ≡ table_of self.old.held }
+        ensures adds { AddsEnd self.old entry lane self.new }
+        ensures holds { (log : List AnyEntry) (sizes : TheSizes) (b : Begin) → MayEnd self.old.held log sizes entry b → IsBeginOf b id lane latches.now mode
+            → HoldsLog self.new.held (log ++ entry ∷ []) sizes }
+        ensures free { free_of self.old.held ≤ free_of self.new.held }
     {
         self.book.add(entry);
         self.free.give(lane);
-        self.lists.remove(id);
+        self.held.end(rows, id, lane, latches, mode, returned);
     }
-}
 
-// The latches of a request, as snapshots list them.
-fn latches_of(
-    alloc: Global,
-    id: u64,
-    lane: u32,
-    request: &Request,
-) -> Result<Vec<HeldLatch>, Memory>
-    ensures { IfOk result (λ own. own.items ≡ own_from id lane 0 request.now.latches) }
-{
-    let count = request.latches().list().len();
-    let mut own = Vec::with_capacity(alloc, count)?;
-    for place in 0..count as u32 {
-        own.push(HeldLatch::new(id, lane, place, request.share()?))?;
+    /// Ends what is kept, where no request is open any more. The entries come out.
+    pub(crate) fn close(self, rows: Rows) -> Vec<Entry>
+        requires table { table_of self.held ≡ rows }
+        requires holds { (log : List AnyEntry) × (sizes : TheSizes) × HoldsLog self.held log sizes × (open_begins log ≡ []) }
+        ensures { result.items ≡ self.book.entries }
+    {
+        let Kept {
+            book,
+            begun: _,
+            free: _free,
+            held,
+        } = self;
+        held.close(rows);
+        book.into_entries()
     }
-    Ok(own)
 }

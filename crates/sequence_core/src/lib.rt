@@ -5,15 +5,18 @@
 mod book;
 pub mod desk;
 pub mod fault;
+#[cfg(test)]
+mod held_open;
 mod kept;
 mod lanes;
 pub mod limits;
-mod lists;
 #[cfg(test)]
 mod meetings;
 pub mod metrics;
 #[cfg(test)]
 mod parallel;
+#[cfg(test)]
+mod polls;
 #[cfg(test)]
 mod sessions;
 #[cfg(test)]

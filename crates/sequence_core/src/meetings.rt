@@ -1,5 +1,6 @@
 // Two sessions whose requests conflict, in each order of what they do.
 ghost use Rattle.std.specs.Prelude.{◌≡◌};
+ghost use Rattle.waiter.specs.Says.{id_of};
 ghost use Rattle.signal_board.specs.Rule.{open_count};
 
 use crate::desk::Desk;
@@ -24,8 +25,8 @@ struct Course {
 
 // A request that ends, granted where its last poll was Ready.
 pub(crate) fn over(core: &Core, waiting: Waiting) -> Ending
-    requires { waiting.table ≡ core.now.board.table }
-    ensures { (result.table ≡ waiting.table) × (result.r.who ≡ waiting.r.who) }
+    requires { waiting.core ≡ id_of core.now }
+    ensures { (result.core ≡ waiting.core) × (result.r.who ≡ waiting.r.who) }
 {
     if waiting.is_ready() {
         waiting.grant(core).finish()
@@ -47,11 +48,11 @@ fn waits(
     first: u8,
     count: u8,
 ) -> Waiting
-    requires tables { (desk.old.table ≡ core.now.board.table) × (pass.old.table ≡ core.now.board.table) }
+    requires tables { (desk.old.core ≡ id_of core.now) × (pass.old.table ≡ core.now.board.table) }
     requires idle { open_count pass.old.p.mine ≡ 0 }
-    ensures desk { (desk.new.table ≡ desk.old.table) × (desk.new.given ≡ desk.old.given) }
+    ensures desk { (desk.new.core ≡ desk.old.core) × (desk.new.given ≡ desk.old.given) }
     ensures pass { (pass.new.table ≡ pass.old.table) × (pass.new.p.who ≡ pass.old.p.who) }
-    ensures waiting { (result.table ≡ core.now.board.table) × (result.r.who ≡ pass.old.p.who) }
+    ensures waiting { (result.core ≡ id_of core.now) × (result.r.who ≡ pass.old.p.who) }
 {
     let request = request(rt, alloc, access, policy, first, count);
     begin(rt, alloc, core, desk, pass, request, Mode::Acquire).waiting()
@@ -59,9 +60,9 @@ fn waits(
 
 // It ends.
 fn ends(core: &Core, desk: &mut Desk, pass: &mut Pass, waiting: Waiting)
-    requires tables { (desk.old.table ≡ core.now.board.table) × (pass.old.table ≡ core.now.board.table) × (waiting.table ≡ core.now.board.table) }
+    requires tables { (desk.old.core ≡ id_of core.now) × (pass.old.table ≡ core.now.board.table) × (waiting.core ≡ id_of core.now) }
     requires session { waiting.r.who ≡ pass.old.p.who }
-    ensures desk { (desk.new.table ≡ desk.old.table) × (desk.new.given ≡ desk.old.given) }
+    ensures desk { (desk.new.core ≡ desk.old.core) × (desk.new.given ≡ desk.old.given) }
     ensures pass { (pass.new.table ≡ pass.old.table) × (pass.new.p.who ≡ pass.old.p.who) × (open_count pass.new.p.mine ≡ 0) }
 {
     let ending = over(core, waiting);
@@ -70,8 +71,8 @@ fn ends(core: &Core, desk: &mut Desk, pass: &mut Pass, waiting: Waiting)
 
 // Polls, where it is to.
 fn may_poll(core: &Core, waiting: &mut Waiting, polls: bool)
-    requires table { waiting.old.table ≡ core.now.board.table }
-    ensures same { (waiting.new.table ≡ waiting.old.table) × (waiting.new.r.who ≡ waiting.old.r.who) }
+    requires table { waiting.old.core ≡ id_of core.now }
+    ensures same { (waiting.new.core ≡ waiting.old.core) × (waiting.new.r.who ≡ waiting.old.r.who) }
 {
     if polls {
         let _ = waiting.poll(core);
@@ -80,8 +81,8 @@ fn may_poll(core: &Core, waiting: &mut Waiting, polls: bool)
 
 // Is poisoned, where it is to be.
 fn may_poison(core: &Core, waiting: &mut Waiting, poisons: bool)
-    requires table { waiting.old.table ≡ core.now.board.table }
-    ensures same { (waiting.new.table ≡ waiting.old.table) × (waiting.new.r.who ≡ waiting.old.r.who) }
+    requires table { waiting.old.core ≡ id_of core.now }
+    ensures same { (waiting.new.core ≡ waiting.old.core) × (waiting.new.r.who ≡ waiting.old.r.who) }
 {
     if poisons {
         waiting.poison(core);
@@ -90,8 +91,8 @@ fn may_poison(core: &Core, waiting: &mut Waiting, poisons: bool)
 
 // The last look of the second request, and its cause then.
 fn last_look(core: &Core, waiting: &mut Waiting) -> (Polled, Cause)
-    requires table { waiting.old.table ≡ core.now.board.table }
-    ensures same { (waiting.new.table ≡ waiting.old.table) × (waiting.new.r.who ≡ waiting.old.r.who) }
+    requires table { waiting.old.core ≡ id_of core.now }
+    ensures same { (waiting.new.core ≡ waiting.old.core) × (waiting.new.r.who ≡ waiting.old.r.who) }
 {
     let polled = waiting.poll(core);
     (polled, waiting.cause())
@@ -293,8 +294,8 @@ fn turns_to_waiting(rt: &impl Abort, alloc: Global) {
 
 // It waits for request 1 alone, and meets its latch.
 fn checks(rt: &impl Abort, alloc: Global, core: &Core, b: &mut Optimist)
-    requires table { b.old.table ≡ core.now.board.table }
-    ensures same { (b.new.table ≡ b.old.table) × (b.new.r.who ≡ b.old.r.who) }
+    requires table { b.old.core ≡ id_of core.now }
+    ensures same { (b.new.core ≡ b.old.core) × (b.new.r.who ≡ b.old.r.who) }
 {
     let Ok(before) = b.prerequisites(alloc, core) else {
         panic!(rt; "no memory")

@@ -1,6 +1,7 @@
 // For tests: a desk of two sessions, and what they do.
 ghost use Rattle.std.specs.Prelude.{◌≡◌, ◌<◌, ◌≤◌, ◌+◌, [], ◌∷◌, ◌++◌, vec_len, vec_capacity};
 ghost use Rattle.latch_model.specs.Legal.{IsLegal};
+ghost use Rattle.waiter.specs.Says.{id_of};
 ghost use Rattle.signal_board.specs.Rule.{open_count};
 
 use crate::desk::{Desk, SeqRefusal};
@@ -49,7 +50,7 @@ pub(crate) fn request(
 /// A desk of two sessions, neither of which has an open request.
 pub(crate) fn two_sessions(rt: &impl Abort, alloc: Global, sizes: Sizes) -> (Core, Desk, Pass, Pass)
     requires { sizes.lanes ≡ 2 }
-    ensures desk { (result.1.table ≡ result.0.board.table) × (result.1.given ≡ 2) }
+    ensures desk { (result.1.core ≡ id_of result.0) × (result.1.given ≡ 2) }
     ensures one { (result.2.table ≡ result.0.board.table) × (result.2.p.who ≡ 1) × (open_count result.2.p.mine ≡ 0) }
     ensures two { (result.3.table ≡ result.0.board.table) × (result.3.p.who ≡ 2) × (open_count result.3.p.mine ≡ 0) }
 {
@@ -71,7 +72,7 @@ pub(crate) fn four_sessions(
     sizes: Sizes,
 ) -> (Core, Desk, Pass, Pass, Pass, Pass)
     requires { sizes.lanes ≡ 4 }
-    ensures desk { (result.1.table ≡ result.0.board.table) × (result.1.given ≡ 4) }
+    ensures desk { (result.1.core ≡ id_of result.0) × (result.1.given ≡ 4) }
     ensures one { (result.2.table ≡ result.0.board.table) × (result.2.p.who ≡ 1) × (open_count result.2.p.mine ≡ 0) }
     ensures two { (result.3.table ≡ result.0.board.table) × (result.3.p.who ≡ 2) × (open_count result.3.p.mine ≡ 0) }
     ensures three { (result.4.table ≡ result.0.board.table) × (result.4.p.who ≡ 3) × (open_count result.4.p.mine ≡ 0) }
@@ -100,11 +101,11 @@ pub(crate) fn begin(
     request: Request,
     mode: Mode,
 ) -> Opened
-    requires tables { (desk.old.table ≡ core.now.board.table) × (pass.old.table ≡ core.now.board.table) }
+    requires tables { (desk.old.core ≡ id_of core.now) × (pass.old.table ≡ core.now.board.table) }
     requires idle { open_count pass.old.p.mine ≡ 0 }
-    ensures desk { (desk.new.table ≡ desk.old.table) × (desk.new.given ≡ desk.old.given) }
+    ensures desk { (desk.new.core ≡ desk.old.core) × (desk.new.given ≡ desk.old.given) }
     ensures pass { (pass.new.table ≡ pass.old.table) × (pass.new.p.who ≡ pass.old.p.who) }
-    ensures opened { (result.table ≡ core.now.board.table) × (result.r.who ≡ pass.old.p.who) × (result.r.mode ≡ mode) }
+    ensures opened { (result.core ≡ id_of core.now) × (result.r.who ≡ pass.old.p.who) × (result.r.mode ≡ mode) }
 {
     match desk.begin(alloc, core, pass, request, mode) {
         Ok(opened) => opened,
@@ -122,7 +123,7 @@ pub(crate) fn refused(
     request: Request,
     mode: Mode,
 ) -> (SeqFault, Request)
-    requires tables { (desk.old.table ≡ core.now.board.table) × (pass.old.table ≡ core.now.board.table) }
+    requires tables { (desk.old.core ≡ id_of core.now) × (pass.old.table ≡ core.now.board.table) }
     requires idle { open_count pass.old.p.mine ≡ 0 }
     ensures desk { desk.new ≡ desk.old }
     ensures pass { (pass.new.table ≡ pass.old.table) × (pass.new.p.who ≡ pass.old.p.who) × (pass.new.p.mine ≡ pass.old.p.mine) }
@@ -135,9 +136,9 @@ pub(crate) fn refused(
 
 /// The request ends at once, without a grant.
 pub(crate) fn end(core: &Core, desk: &mut Desk, pass: &mut Pass, opened: Opened)
-    requires tables { (desk.old.table ≡ core.now.board.table) × (pass.old.table ≡ core.now.board.table) × (opened.table ≡ core.now.board.table) }
+    requires tables { (desk.old.core ≡ id_of core.now) × (pass.old.table ≡ core.now.board.table) × (opened.core ≡ id_of core.now) }
     requires session { opened.r.who ≡ pass.old.p.who }
-    ensures desk { (desk.new.table ≡ desk.old.table) × (desk.new.given ≡ desk.old.given) }
+    ensures desk { (desk.new.core ≡ desk.old.core) × (desk.new.given ≡ desk.old.given) }
     ensures pass { (pass.new.table ≡ pass.old.table) × (pass.new.p.who ≡ pass.old.p.who) × (open_count pass.new.p.mine ≡ 0) }
 {
     let ending = never(core, opened);
@@ -146,8 +147,8 @@ pub(crate) fn end(core: &Core, desk: &mut Desk, pass: &mut Pass, opened: Opened)
 
 // A request that is never granted.
 fn never(core: &Core, opened: Opened) -> Ending
-    requires { opened.table ≡ core.now.board.table }
-    ensures { (result.table ≡ opened.table) × (result.r ≡ opened.r) }
+    requires { opened.core ≡ id_of core.now }
+    ensures { (result.core ≡ opened.core) × (result.r ≡ opened.r) }
 {
     match opened.mode() {
         Mode::Optimistic => opened.optimist().abandon(core),
@@ -167,7 +168,7 @@ pub(crate) fn close(
     one: Pass,
     two: Pass,
 ) -> History
-    requires desk { (desk.table ≡ core.board.table) × (desk.given ≡ 2) }
+    requires desk { (desk.core ≡ id_of core) × (desk.given ≡ 2) }
     requires one { (one.table ≡ core.board.table) × (one.p.who ≡ 1) × (open_count one.p.mine ≡ 0) }
     requires two { (two.table ≡ core.board.table) × (two.p.who ≡ 2) × (open_count two.p.mine ≡ 0) }
     ensures { IsLegal result.entries result.sizes }
@@ -208,7 +209,7 @@ pub(crate) fn close_four(
     three: Pass,
     four: Pass,
 ) -> History
-    requires desk { (desk.table ≡ core.board.table) × (desk.given ≡ 4) }
+    requires desk { (desk.core ≡ id_of core) × (desk.given ≡ 4) }
     requires one { (one.table ≡ core.board.table) × (one.p.who ≡ 1) × (open_count one.p.mine ≡ 0) }
     requires two { (two.table ≡ core.board.table) × (two.p.who ≡ 2) × (open_count two.p.mine ≡ 0) }
     requires three { (three.table ≡ core.board.table) × (three.p.who ≡ 3) × (open_count three.p.mine ≡ 0) }

@@ -118,7 +118,7 @@ fn metrics(rt: HostRuntime) -> Result<(), Fail> {
     let first = begin(&rt, alloc, &core, &mut desk, &mut one, reads, Mode::Acquire);
     assert_eq!(&rt; desk.metrics().global, counts(16, 16, 0));
     assert_eq!(&rt; desk.metrics().local, counts(0, 0, 0));
-    assert_eq!(&rt; desk.metrics().free, 500);
+    assert_eq!(&rt; desk.metrics().free, 500 - 16 * 13);
     let write = request(&rt, alloc, Access::Write, Policy::Wait, b'z', 1);
     let second = begin(&rt, alloc, &core, &mut desk, &mut two, write, Mode::Acquire);
     assert_eq!(&rt; desk.metrics().global, counts(16, 0, 1));
@@ -138,7 +138,56 @@ fn metrics(rt: HostRuntime) -> Result<(), Fail> {
     end(&core, &mut desk, &mut two, third);
     end(&core, &mut desk, &mut one, first);
     assert_eq!(&rt; desk.metrics().global, counts(0, 0, 0));
+    assert_eq!(&rt; desk.metrics().free, 500);
     let _ = close(&rt, alloc, core, desk, one, two);
+    Ok(())
+}
+
+// Where rows are out no request begins but a look, and when those that have them end it does.
+#[test]
+fn rows_out(rt: HostRuntime) -> Result<(), Fail> {
+    let alloc = rt.alloc();
+    let sizes = Sizes {
+        latches: 100,
+        lanes: 2,
+        rows: 208,
+    };
+    let (core, mut desk, mut one, mut two) = two_sessions(&rt, alloc, sizes);
+    let reads = request(&rt, alloc, Access::Read, Policy::Wait, b'a', 16);
+    let first = begin(&rt, alloc, &core, &mut desk, &mut one, reads, Mode::Acquire);
+    assert_eq!(&rt; desk.metrics().global, counts(16, 16, 0));
+    assert_eq!(&rt; desk.metrics().free, 0);
+    let single = request(&rt, alloc, Access::Read, Policy::Wait, b'z', 1);
+    let (fault, single) = refused(
+        &rt,
+        alloc,
+        &core,
+        &mut desk,
+        &mut two,
+        single,
+        Mode::Acquire,
+    );
+    assert_eq!(&rt; fault, SeqFault::RowsOut { free: 0, need: 13 });
+    assert_eq!(&rt; desk.metrics().free, 0);
+    let look = begin(&rt, alloc, &core, &mut desk, &mut two, single, Mode::Look);
+    end(&core, &mut desk, &mut two, look);
+    end(&core, &mut desk, &mut one, first);
+    assert_eq!(&rt; desk.metrics().free, 208);
+    let single = request(&rt, alloc, Access::Read, Policy::Wait, b'z', 1);
+    let last = begin(
+        &rt,
+        alloc,
+        &core,
+        &mut desk,
+        &mut two,
+        single,
+        Mode::Acquire,
+    );
+    assert_eq!(&rt; desk.metrics().free, 195);
+    end(&core, &mut desk, &mut two, last);
+    assert_eq!(&rt; desk.metrics().free, 208);
+    let history = close(&rt, alloc, core, desk, one, two);
+    assert_eq!(&rt; history.entries.len(), 6);
     Ok(())
 }
 

@@ -13,10 +13,11 @@ use Rattle.latch_model.proofs.Lists.{Contains-from_In, In, In-append_right}
 use Rattle.signal_board.specs.Says.{first_cause, shown_to}
 use Rattle.signal_board.specs.Steps.{IsReady, warned}
 use Rattle.signal_board.specs.Views.{RequestView}
-use Rattle.waiter.specs.Polls.{BlockedUnder, FirstOpen, FoundPoisoned, FoundSound, IsBlockedPoll, IsPoisonedPoll, IsReadyPoll, Polls, SameBut}
+use Rattle.shot_walks.specs.Waits.{FirstOpen, waits_for}
+use Rattle.waiter.specs.Polls.{BlockedUnder, FoundPoisoned, FoundSound, IsBlockedPoll, IsPoisonedPoll, IsReadyPoll, Polls, SameBut}
 use Rattle.waiter.specs.declared.waiting.Polled.{Polled}
 use Rattle.waiter.specs.declared.waiting.Polled.TheVariants as polled
-use Rattle.waiter.specs.Says.{WaitingSays, waits_for}
+use Rattle.waiter.specs.Says.{WaitingSays}
 use Rattle.step_run.specs.State.{Named, State, is_poisoned_in}
 use Rattle.step_run.specs.Steps.{is_over, spread_to}
 use Rattle.step_run.specs.Valid.{Valid}
@@ -58,14 +59,14 @@ blocker_is : (s : State) (n : Named) (old new : RequestView) (x : HeldLatch) →
     ((p : ℕ) → Contains new.ended p → has_ended s.history p ≡ true) → FirstOpen old new x → IsBlocker s n x
 blocker_is s n old new x f shown ended w =
     let p : HeldLatch → Bool = λ y. not (has_ended s.history y.by) in
-    let is : met s.history n.id (latches_of s.history n.id) ≡ w.front ++ x ∷ w.rest = sym (waits_are s.history n old f) ∙ w.stands in
+    let is : met s.history n.id (latches_of s.history n.id) ≡ w.passed.front ++ x ∷ w.rest = sym (waits_are s.history n old f) ∙ w.passed.parted in
     let still : has_ended s.history x.by ≡ false = ap (λ h. has_ended h x.by) (sym shown) ∙ w.not_shown in
     record {
       rest = filter p w.rest;
       first = ap (λ ys. filter p ys) is
-          ∙ first_left p w.front x w.rest (λ y k. ap not (ended y.by (w.ended y (Contains-from_In w.front y k)))) (ap not still);
+          ∙ first_left p w.passed.front x w.rest (λ y k. ap not (ended y.by (w.passed.over y (Contains-from_In w.passed.front y k)))) (ap not still);
       met = met_is s.history n.id (latches_of s.history n.id) x
-          (subst (λ ys. In x ys) (sym is) (In-append_right w.front (x ∷ w.rest) x (inl refl)));
+          (subst (λ ys. In x ys) (sym is) (In-append_right w.passed.front (x ∷ w.rest) x (inl refl)));
       open_still = still;
     }
 

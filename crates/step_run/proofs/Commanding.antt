@@ -5,7 +5,6 @@ use Rattle.std.specs.Prelude.{slice_get}
 use Rattle.std.specs.List.{position, remove}
 use Rattle.std.specs.Option.{option_and_then}
 use Rattle.std.proofs.lemmas.List.{append-nil, append_assoc, length-map}
-use Rattle.atomic_table.specs.Seated.{TableId}
 use Rattle.latch_model.specs.Checks.{has_cause, is_declared}
 use Rattle.latch_model.specs.Declaration.{Declaration}
 use Rattle.latch_model.specs.Histories.{HeldLatch, ascending, before, begins, free_lane, latches_of, met, met_in, shot}
@@ -29,7 +28,8 @@ use Rattle.script.specs.Follows.{passed_grant}
 use Rattle.sequence_core.specs.Says.{next_entry}
 use Rattle.signal_board.specs.Says.{first_cause}
 use Rattle.signal_board.specs.Views.{RequestView}
-use Rattle.waiter.specs.Says.{OptimistSays, WaitingSays, waits_for}
+use Rattle.shot_walks.specs.Waits.{waits_for}
+use Rattle.waiter.specs.Says.{CoreId, OptimistSays, WaitingSays}
 use Rattle.step_run.specs.State.{Granted, Named, Optimistic, Over, Pending, Phase, State, ended, with_name, without}
 use Rattle.step_run.specs.Steps.{Step, checked, checked_unless, first_phase, first_turn, is_over, line, met_first, new_begin, new_name, on_found, on_name}
 use Rattle.step_run.specs.Steps.{opened, poisoned, released, released_state, silent, turn, waited, with_new}
@@ -119,7 +119,7 @@ ended_as : {a b c d : ℕ} {x y : Cause} {g k : Grant} → a ≡ b → c ≡ d �
 ended_as p q z w = cc
 
 pub stands_gone : (s : State) (r t : RunSays) (i : ℕ) (n : Named) (l : LiveSays) (phase : Phase) (v : Value) → n.phase ≡ phase → l.value ≡ v → Stands s r →
-    slice_get s.names i ≡ Some n → FitsName n l → FitsValue s.history n phase v → IsOf r.board l.session v →
+    slice_get s.names i ≡ Some n → FitsName n l → FitsValue s.history n phase v → IsOf r.core l.session v →
     t.log ≡ ended_with v r.log → t.lives ≡ remove r.lives i → Stands (released n s).state t
 stands_gone s r t i n l phase v e f h at k g o a b =
     subst Claim (sym e) (by phase v e g o a)
@@ -136,7 +136,7 @@ stands_gone s r t i n l phase v e f h at k g o a b =
     Claim p =
         let u = released_state p n s in Stands (record { history = u.history; names = without n.id u.names; line = u.line }) t
 
-    by : (p : Phase) (v : Value) → n.phase ≡ p → FitsValue s.history n p v → IsOf r.board l.session v → t.log ≡ ended_with v r.log → Claim p
+    by : (p : Phase) (v : Value) → n.phase ≡ p → FitsValue s.history n p v → IsOf r.core l.session v → t.log ≡ ended_with v r.log → Claim p
     by Optimistic (Optimist w) e f o a = gone w.r (passed_grant n.passed) (passed_grant w.passed) f.0.id o.1 f.0.cause (ap passed_grant f.1) a
     by Optimistic (Waiting w) e f o a = absurd f
     by Optimistic (GrantedValue w) e f o a = absurd f
@@ -156,7 +156,7 @@ stands_gone s r t i n l phase v e f h at k g o a b =
         stands_as _ (record r { lives = t.lives }) t a refl (stands_remove s r i n t.lives h at (ap is_over e) b)
 
 pub makes_released : (s : State) (r t : RunSays) (i : ℕ) (n : Named) (l : LiveSays) (name out new : List ℕ) → Stands s r → slice_get s.names i ≡ Some n →
-    slice_get r.lives i ≡ Some l → IsOf r.board l.session l.value → t.log ≡ ended_with l.value r.log → t.lives ≡ remove r.lives i → name ≡ l.name →
+    slice_get r.lives i ≡ Some l → IsOf r.core l.session l.value → t.log ≡ ended_with l.value r.log → t.lives ≡ remove r.lives i → name ≡ l.name →
     new ≡ out ++ named_line name (codes "ended") → Makes (released n s) t out new
 makes_released s r t i n l name out new h at there o a b e g =
     let k = pair_here (Fits s.history) s.names r.lives i n l h.names at there in
@@ -442,25 +442,25 @@ turns_free : (o : Option ℕ) → TurnsRange o → FitsTurns o 0 0
 turns_free None h = tt
 turns_free (Some n) h = record { same = refl; left = h.0; few = let l : n ≤ 1000000 = h.1 in omega arith }
 
-begun_fits : (h : List Entry) (n : Named) (t : TableId) (mode : Mode) (q : RequestView) → n.mode ≡ mode → n.phase ≡ first_phase mode → n.passed ≡ None →
-    n.counted ≡ 0 → TurnsRange n.turns → FitsRequest h n q → FitsValue h n (first_phase mode) (begun_value t mode q)
-begun_fits h n t Acquire q a b c d e f = (f, subst (λ k. FitsTurns n.turns k 0) (sym d) (turns_free n.turns e))
-begun_fits h n t optimistic_mode q a b c d e f = (f, sym c, subst (λ k. FitsTurns n.turns k 0) (sym d) (turns_free n.turns e))
-begun_fits h n t Look q a b c d e f = (f, subst (λ k. FitsTurns n.turns k 0) (sym d) (turns_free n.turns e))
+begun_fits : (h : List Entry) (n : Named) (core : CoreId) (mode : Mode) (q : RequestView) → n.mode ≡ mode → n.phase ≡ first_phase mode → n.passed ≡ None →
+    n.counted ≡ 0 → TurnsRange n.turns → FitsRequest h n q → FitsValue h n (first_phase mode) (begun_value core mode q)
+begun_fits h n core Acquire q a b c d e f = (f, subst (λ k. FitsTurns n.turns k 0) (sym d) (turns_free n.turns e))
+begun_fits h n core optimistic_mode q a b c d e f = (f, sym c, subst (λ k. FitsTurns n.turns k 0) (sym d) (turns_free n.turns e))
+begun_fits h n core Look q a b c d e f = (f, subst (λ k. FitsTurns n.turns k 0) (sym d) (turns_free n.turns e))
 
 going_first : (mode : Mode) → is_over (first_phase mode) ≡ false
 going_first Acquire = refl
 going_first optimistic_mode = refl
 going_first Look = refl
 
-pub stands_begun : (s : State) (r t : RunSays) (l : LiveSays) (table : TableId) (policy : Policy) (latches : List Latch) → Stands s r → TurnsRange l.turns →
+pub stands_begun : (s : State) (r t : RunSays) (l : LiveSays) (core : CoreId) (policy : Policy) (latches : List Latch) → Stands s r → TurnsRange l.turns →
     (let request : Declaration = record { tag = s.line; policy = policy; latches = latches } in
-    (t.log ≡ r.log ++ next_entry r.log l.session l.mode request ∷ []) × (l.value ≡ begun_value table l.mode (begun_request r.log l.session l.mode request))) →
+    (t.log ≡ r.log ++ next_entry r.log l.session l.mode request ∷ []) × (l.value ≡ begun_value core l.mode (begun_request r.log l.session l.mode request))) →
     t.lives ≡ r.lives ++ l ∷ [] →
     (let named : Named = new_name s l.session l.name l.mode policy l.turns in Stands (with_new (new_begin s l.session l.mode policy latches) named s) t
     × FitsRequest (with_new (new_begin s l.session l.mode policy latches) named s).history named (begun_request r.log l.session l.mode
     (record { tag = s.line; policy = policy; latches = latches })))
-stands_begun s r t l table policy latches h range made e =
+stands_begun s r t l core policy latches h range made e =
     let request : Declaration = record { tag = s.line; policy = policy; latches = latches } in
     let named : Named = new_name s l.session l.name l.mode policy l.turns in
     let id : ℕ = length (begins s.history) + 1 in
@@ -469,8 +469,8 @@ stands_begun s r t l table policy latches h range made e =
     latches_of_new s.history id (free_lane s.history) l.session l.mode request (h.valid.fresh id (omega arith)) in
     let fits : FitsRequest (s.history ++ x ∷ []) named (begun_request s.history l.session l.mode request) =
     record { id = refl; policy = refl; latches = sym new; shot = refl; cause = refl } in
-    let value : FitsValue (s.history ++ x ∷ []) named (first_phase l.mode) (begun_value table l.mode (begun_request s.history l.session l.mode request)) =
-    begun_fits (s.history ++ x ∷ []) named table l.mode _ refl refl refl refl range fits in (
+    let value : FitsValue (s.history ++ x ∷ []) named (first_phase l.mode) (begun_value core l.mode (begun_request s.history l.session l.mode request)) =
+    begun_fits (s.history ++ x ∷ []) named core l.mode _ refl refl refl refl range fits in (
       record {
         history = made.0 ∙ ap (λ g. g ++ next_entry g l.session l.mode request ∷ []) h.history;
         valid = valid_begin s.history s.names (free_lane s.history) l.session l.mode request named refl refl (going_first l.mode) new h.valid;
@@ -478,7 +478,7 @@ stands_begun s r t l table policy latches h range made e =
             (pairs_pushed (Fits (s.history ++ x ∷ [])) s.names r.lives named l (pairs_grown s.history (x ∷ []) s.names r.lives h.valid.begun h.names) (
               record { name = refl; session = refl; mode = refl; turns = refl },
               subst (λ v. FitsValue (s.history ++ x ∷ []) named (first_phase l.mode) v)
-                  (sym (made.1 ∙ ap (λ g. begun_value table l.mode (begun_request g l.session l.mode request)) h.history)) value,
+                  (sym (made.1 ∙ ap (λ g. begun_value core l.mode (begun_request g l.session l.mode request)) h.history)) value,
             ));
       },
       subst (λ g. FitsRequest (s.history ++ x ∷ []) named (begun_request g l.session l.mode request)) (sym h.history) fits,
@@ -496,10 +496,10 @@ text_of h n q f =
     both : q.shot ≡ shot h n.id → q.request.latches ≡ latches_of h n.id → met_in q.shot q.request.latches ≡ met_in (shot h n.id) (latches_of h n.id)
     both e g = cc
 
-pub begun_text : (t : TableId) (mode : Mode) (q : RequestView) → opening_text (begun_value t mode q) ≡ request_text q
-begun_text t Acquire q = refl
-begun_text t optimistic_mode q = refl
-begun_text t Look q = refl
+pub begun_text : (core : CoreId) (mode : Mode) (q : RequestView) → opening_text (begun_value core mode q) ≡ request_text q
+begun_text core Acquire q = refl
+begun_text core optimistic_mode q = refl
+begun_text core Look q = refl
 
 pub makes_opened : (s : State) (n : Named) (t : RunSays) (name out mid new text : List ℕ) → name ≡ n.name →
     text ≡ decimal n.id ++ codes " before " ++ numbers_text (before s.history n.id) → mid ≡ out ++ named_line name text →
@@ -520,11 +520,11 @@ held_called (Waiting w) = refl
 held_called (GrantedValue g) = refl
 held_called OverValue = refl
 
-pub of_called : (t : TableId) (who : ℕ) (v : Value) → IsOf t who v → IsOf t who (called_value v)
-of_called t who (Optimist o) f = f
-of_called t who (Waiting w) f = f
-of_called t who (GrantedValue g) f = f
-of_called t who OverValue f = tt
+pub of_called : (core : CoreId) (who : ℕ) (v : Value) → IsOf core who v → IsOf core who (called_value v)
+of_called core who (Optimist o) f = f
+of_called core who (Waiting w) f = f
+of_called core who (GrantedValue g) f = f
+of_called core who OverValue f = tt
 
 pub kept_value : (i : ℕ) (v : Value) (l : LiveSays) (ls ms new : List LiveSays) → slice_get ls i ≡ Some l → v ≡ l.value → ms ≡ with_value i OverValue ls →
     new ≡ with_value i v ms → new ≡ ls

@@ -1,11 +1,11 @@
 -- A run whose live names were warned is as it was, but for what they know.
 use Rattle.std.proofs.Common.{◌≡◌, ℕ, List, sym, ap, subst}
-use Rattle.atomic_table.specs.Seated.{TableId}
 use Rattle.latch_model.specs.declared.history.Entry.{Entry}
 use Rattle.latch_model.specs.declared.history.Sizes.{Sizes}
 use Rattle.sequence_core.specs.Says.{DeskState}
 use Rattle.signal_board.specs.Says.{PassSays}
-use Rattle.waiter.specs.declared.opened.Core.{Core}
+use Rattle.waiter.specs.Says.{CoreId, id_of}
+use Rattle.waiter.specs.declared.shared.Core.{Core}
 use Rattle.step_run.specs.Lives.{AreWarned}
 use Rattle.step_run.specs.Runs.{IsLent, RunSays, Sound, StandsBut}
 use Rattle.step_run.specs.Seen.{seen_run}
@@ -17,12 +17,12 @@ use Rattle.step_run.proofs.Sounding.{lent_warned, sound_warned}
 pub seen_moved : (old new : StepRun) → new.core ≡ old.core → new.desk ≡ old.desk → new.passes.items ≡ old.passes.items →
     seen_run new ≡ record (seen_run old) { lives = (seen_run new).lives }
 seen_moved old new a b c =
-    made (ap (λ (x : Core). x.board.table) a) (ap (λ (d : DeskState). d.table) b) (ap (λ (d : DeskState). d.sizes) b) (ap (λ (d : DeskState). d.given) b)
+    made (ap (λ (x : Core). id_of x) a) (ap (λ (d : DeskState). d.core) b) (ap (λ (d : DeskState). d.sizes) b) (ap (λ (d : DeskState). d.given) b)
     (ap (λ (d : DeskState). d.log) b) c
   where
-    made : {t t' d d' : TableId} {z z' : Sizes} {g g' : ℕ} {h h' : List Entry} {p p' : List PassSays} → t ≡ t' → d ≡ d' → z ≡ z' → g ≡ g' → h ≡ h' → p ≡ p' →
-        (let r : RunSays = record { board = t; desk = d; sizes = z; given = g; log = h; passes = p; lives = (seen_run new).lives } in r)
-        ≡ record { board = t'; desk = d'; sizes = z'; given = g'; log = h'; passes = p'; lives = (seen_run new).lives }
+    made : {k k' d d' : CoreId} {z z' : Sizes} {g g' : ℕ} {h h' : List Entry} {p p' : List PassSays} → k ≡ k' → d ≡ d' → z ≡ z' → g ≡ g' → h ≡ h' → p ≡ p' →
+        (let r : RunSays = record { core = k; desk = d; sizes = z; given = g; log = h; passes = p; lives = (seen_run new).lives } in r)
+        ≡ record { core = k'; desk = d'; sizes = z'; given = g'; log = h'; passes = p'; lives = (seen_run new).lives }
     made e0 e1 e2 e3 e4 e5 = cc
 
 pub sound_moved : (w : ℕ) (old new : StepRun) → new.core ≡ old.core → new.desk ≡ old.desk → new.passes.items ≡ old.passes.items →

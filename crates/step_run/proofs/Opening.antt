@@ -1,11 +1,9 @@
 -- The first turn of a request.
 use Rattle.std.proofs.Common.{◌≡◌, ℕ, List, [], ◌∷◌, ◌++◌, length, true, ◌≤◌, Option, None, Some, codes, ◌⊎◌, inl, inr, refl, sym, ap, ◌∙◌, subst}
 use Rattle.std.specs.Prelude.{IfSome, slice_get}
-use Rattle.latch_model.specs.declared.history.Sizes.{Sizes}
 use Rattle.script.specs.declared.limits.TheConstants.{TURN_LIMIT}
 use Rattle.sequence_core.specs.Counted.{metrics_of}
 use Rattle.sequence_core.specs.declared.metrics.Metrics.{Metrics}
-use Rattle.atomic_table.specs.Seated.{TableId}
 use Rattle.latch_model.specs.Declaration.{Declaration}
 use Rattle.latch_model.specs.declared.latch.Mode.{Mode}
 use Rattle.latch_model.specs.declared.latch.Mode.TheVariants.{Acquire, Optimistic as optimistic_mode, Look}
@@ -14,6 +12,7 @@ use Rattle.step_run.specs.State.{Named, State}
 use Rattle.step_run.specs.Steps.{Step, first_phase, first_turn, metrics_line, new_begin, new_name, opening, waited, with_new}
 use Rattle.latch_model.specs.declared.history.Entry.{Entry}
 use Rattle.signal_board.specs.Views.{RequestView}
+use Rattle.waiter.specs.Says.{CoreId, id_of}
 use Rattle.step_run.specs.Lives.{IsLive, IsOf, LiveSays, is_held}
 use Rattle.step_run.specs.Seen.{seen_run}
 use Rattle.step_run.specs.declared.live.Value.{Value}
@@ -47,17 +46,17 @@ pub record Opens (s : State) (r mid : RunSays) (l : LiveSays) (request : Declara
   pub makes : (t : RunSays) (out line_out new : List ℕ) → line_out ≡ out ++ named_line l.name (opening_text l.value) →
       Makes (first_turn l.mode name state) t line_out new → Makes (opening s l.session l.name l.mode request.policy l.turns request.latches) t out new
 
-pub opens_as : (s : State) (r mid : RunSays) (l : LiveSays) (table : TableId) (request : Declaration) → Stands s r → s.line ≡ request.tag → TurnsRange l.turns →
-    mid.log ≡ r.log ++ next_entry r.log l.session l.mode request ∷ [] → l.value ≡ begun_value table l.mode (begun_request r.log l.session l.mode request) →
+pub opens_as : (s : State) (r mid : RunSays) (l : LiveSays) (core : CoreId) (request : Declaration) → Stands s r → s.line ≡ request.tag → TurnsRange l.turns →
+    mid.log ≡ r.log ++ next_entry r.log l.session l.mode request ∷ [] → l.value ≡ begun_value core l.mode (begun_request r.log l.session l.mode request) →
     mid.lives ≡ r.lives ++ l ∷ [] → Opens s r mid l request
-opens_as s r mid l table request h line range log value lives =
+opens_as s r mid l core request h line range log value lives =
     let tagged : Declaration = record { tag = s.line; policy = request.policy; latches = request.latches } in
     let same : request ≡ tagged = ap (λ k. let d : Declaration = record { tag = k; policy = request.policy; latches = request.latches } in d) (sym line) in
     let named : Named = new_name s l.session l.name l.mode request.policy l.turns in
     let next : State = with_new (new_begin s l.session l.mode request.policy request.latches) named s in
-    let value_is : l.value ≡ begun_value table l.mode (begun_request r.log l.session l.mode tagged) =
-    value ∙ ap (λ (d : Declaration). begun_value table l.mode (begun_request r.log l.session l.mode d)) same in
-    let made = stands_begun s r mid l table request.policy request.latches h range
+    let value_is : l.value ≡ begun_value core l.mode (begun_request r.log l.session l.mode tagged) =
+    value ∙ ap (λ (d : Declaration). begun_value core l.mode (begun_request r.log l.session l.mode d)) same in
+    let made = stands_begun s r mid l core request.policy request.latches h range
     (log ∙ ap (λ (d : Declaration). r.log ++ next_entry r.log l.session l.mode d ∷ []) same, value_is) lives in
     record {
       state = next;
@@ -66,30 +65,30 @@ opens_as s r mid l table request h line range log value lives =
       at = new_at s r named (new_begin s l.session l.mode request.policy request.latches) h;
       phase = refl;
       makes = λ t out line_out new e m. makes_opened next named t l.name out line_out new (opening_text l.value) refl
-          (ap opening_text value_is ∙ begun_text table l.mode (begun_request r.log l.session l.mode tagged)
+          (ap opening_text value_is ∙ begun_text core l.mode (begun_request r.log l.session l.mode tagged)
           ∙ text_of next.history named (begun_request r.log l.session l.mode tagged) made.1) e m;
     }
 
--- What stands for a request that has begun is of its board and session.
-pub begun_of : (t : TableId) (log : List Entry) (session : ℕ) (mode : Mode) (request : Declaration) → (v : Value) →
-    v ≡ begun_value t mode (begun_request log session mode request) → IsOf t session v
-begun_of t log session mode request v e = subst (λ (x : Value). IsOf t session x) (sym e) (by mode)
+-- What stands for a request that has begun is of its core and session.
+pub begun_of : (core : CoreId) (log : List Entry) (session : ℕ) (mode : Mode) (request : Declaration) → (v : Value) →
+    v ≡ begun_value core mode (begun_request log session mode request) → IsOf core session v
+begun_of core log session mode request v e = subst (λ (x : Value). IsOf core session x) (sym e) (by mode)
   where
-    by : (m : Mode) → IsOf t session (begun_value t m (begun_request log session mode request))
+    by : (m : Mode) → IsOf core session (begun_value core m (begun_request log session mode request))
     by Acquire = (refl, refl)
     by optimistic_mode = (refl, refl)
     by Look = (refl, refl)
 
-pub begun_held : (t : TableId) (mode : Mode) (q : RequestView) (v : Value) → v ≡ begun_value t mode q → (is_held v ≡ true) × IsBegun v
-begun_held t mode q v e = subst (λ (x : Value). (is_held x ≡ true) × IsBegun x) (sym e) (by mode)
+pub begun_held : (core : CoreId) (mode : Mode) (q : RequestView) (v : Value) → v ≡ begun_value core mode q → (is_held v ≡ true) × IsBegun v
+begun_held core mode q v e = subst (λ (x : Value). (is_held x ≡ true) × IsBegun x) (sym e) (by mode)
   where
-    by : (m : Mode) → (is_held (begun_value t m q) ≡ true) × IsBegun (begun_value t m q)
+    by : (m : Mode) → (is_held (begun_value core m q) ≡ true) × IsBegun (begun_value core m q)
     by Acquire = (refl, tt)
     by optimistic_mode = (refl, tt)
     by Look = (refl, tt)
 
 pub pushed_sound : (old new : StepRun) (l : LiveSays) → new.core ≡ old.core → new.desk ≡ old.desk → new.passes.items ≡ old.passes.items →
-    (seen_run new).lives ≡ (seen_run old).lives ++ l ∷ [] → IsLive old.core.board.table l → is_held l.value ≡ true → Sound l.session (seen_run old) →
+    (seen_run new).lives ≡ (seen_run old).lives ++ l ∷ [] → IsLive (id_of old.core) l → is_held l.value ≡ true → Sound l.session (seen_run old) →
     Sound 0 (seen_run new)
 pushed_sound old new l a b c e live held h =
     subst (λ (r : RunSays). Sound 0 r) (sym (seen_moved old new a b c)) (sound_push (seen_run old) l (seen_run new).lives live held e h)
@@ -102,12 +101,12 @@ pub turns_of : (o : Option ℕ) → IfSome o (λ n. (1 ≤ n) × (n ≤ TURN_LIM
 turns_of None h = tt
 turns_of (Some n) h = h
 
--- The counts of metrics.
-pub metrics_makes : (s : State) (r : RunSays) (m : Metrics) (sizes : Sizes) (out new : List ℕ) → m ≡ metrics_of r.log sizes → Stands s r →
+-- The counts of metrics, which are of the history whatever is free.
+pub metrics_makes : (s : State) (r : RunSays) (m : Metrics) (free : ℕ) (out new : List ℕ) → m ≡ metrics_of r.log free → Stands s r →
     new ≡ out ++ (codes "metrics global" ++ counts_line m.global ++ codes " local" ++ counts_line m.local ++ codes "\n") →
     Makes (record { written = metrics_line s.history; state = s }) r out new
-metrics_makes s r m sizes out new e h g = record {
+metrics_makes s r m free out new e h g = record {
   written = g ∙ ap (λ (x : Metrics). out ++ (codes "metrics global" ++ counts_line x.global ++ codes " local" ++ counts_line x.local ++ codes "\n"))
-      (e ∙ ap (λ k. metrics_of k sizes) h.history);
+      (e ∙ ap (λ k. metrics_of k free) h.history);
   stands = h;
 }

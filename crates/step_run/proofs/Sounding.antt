@@ -5,12 +5,11 @@ use Rattle.std.specs.Prelude.{slice_get, slice_set}
 use Rattle.std.specs.List.{remove}
 use Rattle.std.proofs.lemmas.Bool.{eq-eqb, eqb-true, ne_eqb, or_left, or_right}
 use Rattle.std.proofs.lemmas.List.Folds.{list_any-append}
-use Rattle.atomic_table.specs.Seated.{TableId}
 use Rattle.latch_model.specs.declared.history.Entry.{Entry}
 use Rattle.latch_model.proofs.Elements.{Each, Each-append}
 use Rattle.signal_board.specs.Rule.{open_count}
 use Rattle.signal_board.specs.Says.{PassSays}
-use Rattle.waiter.specs.Says.{OptimistSays, WaitingSays}
+use Rattle.waiter.specs.Says.{CoreId, OptimistSays, WaitingSays}
 use Rattle.step_run.specs.Lives.{AreWarned, IsLive, IsOf, LiveSays, has_name, has_open, is_held, lent_by, warned_live, warned_value, with_value}
 use Rattle.step_run.specs.Runs.{IsLent, IsPass, RunSays, Sound}
 use Rattle.step_run.specs.declared.live.Value.{Value}
@@ -76,35 +75,35 @@ open_warned j (l ∷ ls) (m ∷ ms) h = both_or (one h.0.0 h.0.1) (open_warned j
     both_or e f = cc
 
 -- each live name after a change
-of_warned : (t : TableId) (who : ℕ) (ps : List ℕ) (v : Value) → IsOf t who v → IsOf t who (warned_value ps v)
-of_warned t who ps (Optimist o) h = h
-of_warned t who ps (Waiting w) h = h
-of_warned t who ps (Granted g) h = h
-of_warned t who ps Over h = tt
+of_warned : (core : CoreId) (who : ℕ) (ps : List ℕ) (v : Value) → IsOf core who v → IsOf core who (warned_value ps v)
+of_warned core who ps (Optimist o) h = h
+of_warned core who ps (Waiting w) h = h
+of_warned core who ps (Granted g) h = h
+of_warned core who ps Over h = tt
 
-live_warned : (t : TableId) (ps : List ℕ) (l m : LiveSays) → m ≡ warned_live ps l → IsLive t l → IsLive t m
-live_warned t ps l m e h =
-    subst (λ (x : LiveSays). IsLive t x) (sym e) (record { low = h.low; high = h.high; of = of_warned t l.session ps l.value h.of })
+live_warned : (core : CoreId) (ps : List ℕ) (l m : LiveSays) → m ≡ warned_live ps l → IsLive core l → IsLive core m
+live_warned core ps l m e h =
+    subst (λ (x : LiveSays). IsLive core x) (sym e) (record { low = h.low; high = h.high; of = of_warned core l.session ps l.value h.of })
 
-pub lives_warned : (t : TableId) (ls ms : List LiveSays) → AreWarned ls ms → Each (IsLive t) ls → Each (IsLive t) ms
-lives_warned t [] [] h k = tt
-lives_warned t [] (m ∷ ms) h k = absurd h
-lives_warned t (l ∷ ls) [] h k = absurd h
-lives_warned t (l ∷ ls) (m ∷ ms) h k = (live_warned t h.0.0 l m h.0.1 k.0, lives_warned t ls ms h.1 k.1)
+pub lives_warned : (core : CoreId) (ls ms : List LiveSays) → AreWarned ls ms → Each (IsLive core) ls → Each (IsLive core) ms
+lives_warned core [] [] h k = tt
+lives_warned core [] (m ∷ ms) h k = absurd h
+lives_warned core (l ∷ ls) [] h k = absurd h
+lives_warned core (l ∷ ls) (m ∷ ms) h k = (live_warned core h.0.0 l m h.0.1 k.0, lives_warned core ls ms h.1 k.1)
 
-lives_valued : (t : TableId) (i : ℕ) (v : Value) (ls : List LiveSays) → ((l : LiveSays) → slice_get ls i ≡ Some l → IsOf t l.session v) → Each (IsLive t) ls →
-    Each (IsLive t) (with_value i v ls)
-lives_valued t zero v [] f h = tt
-lives_valued t (suc i) v [] f h = tt
-lives_valued t zero v (l ∷ ls) f h = (record { low = h.0.low; high = h.0.high; of = f l refl }, h.1)
-lives_valued t (suc i) v (l ∷ ls) f h = (h.0, lives_valued t i v ls f h.1)
+lives_valued : (core : CoreId) (i : ℕ) (v : Value) (ls : List LiveSays) → ((l : LiveSays) → slice_get ls i ≡ Some l → IsOf core l.session v) →
+    Each (IsLive core) ls → Each (IsLive core) (with_value i v ls)
+lives_valued core zero v [] f h = tt
+lives_valued core (suc i) v [] f h = tt
+lives_valued core zero v (l ∷ ls) f h = (record { low = h.0.low; high = h.0.high; of = f l refl }, h.1)
+lives_valued core (suc i) v (l ∷ ls) f h = (h.0, lives_valued core i v ls f h.1)
 
 -- Other live names, of which each session without an open request had none before.
 with_lives : (r : RunSays) (old new : ℕ) (ls : List LiveSays) →
-    ((j : ℕ) → j ≢ 0 → j ≢ new → has_open j ls ≡ false → (j ≢ old) × (has_open j r.lives ≡ false)) → Each (IsLive r.board) ls → Sound old r →
+    ((j : ℕ) → j ≢ 0 → j ≢ new → has_open j ls ≡ false → (j ≢ old) × (has_open j r.lives ≡ false)) → Each (IsLive r.core) ls → Sound old r →
     Sound new (record r { lives = ls })
 with_lives r old new ls f g h = record {
-  table = h.table;
+  core = h.core;
   sizes = h.sizes;
   given = h.given;
   count = h.count;
@@ -122,7 +121,7 @@ pub sound_take : (r : RunSays) (i : ℕ) (l : LiveSays) (ls : List LiveSays) →
 sound_take r i l ls at e h =
     with_lives r 0 l.session ls
     (λ j z d o. (z, sym (open_other j i Over r.lives l at (λ g. d (sym g))) ∙ ap (λ (xs : List LiveSays). has_open j xs) (sym e) ∙ o))
-    (subst (λ (xs : List LiveSays). Each (IsLive r.board) xs) (sym e) (lives_valued r.board i Over r.lives (λ l e. tt) h.lives)) h
+    (subst (λ (xs : List LiveSays). Each (IsLive r.core) xs) (sym e) (lives_valued r.core i Over r.lives (λ l e. tt) h.lives)) h
 
 pub lent_take : (r : RunSays) (i : ℕ) (l : LiveSays) (ls : List LiveSays) → slice_get r.lives i ≡ Some l → ls ≡ with_value i Over r.lives →
     IsLent i l.session (record r { lives = ls })
@@ -142,15 +141,15 @@ lent_take r i l ls at e = record {
 clash : {a : Bool} → a ≡ true → a ≡ false → ⊥
 clash e f = cc
 
-pub sound_put : (r : RunSays) (i who : ℕ) (v : Value) (ls : List LiveSays) → IsLent i who r → is_held v ≡ true → IsOf r.board who v →
+pub sound_put : (r : RunSays) (i who : ℕ) (v : Value) (ls : List LiveSays) → IsLent i who r → is_held v ≡ true → IsOf r.core who v →
     ls ≡ with_value i v r.lives → Sound who r → Sound 0 (record r { lives = ls })
 sound_put r i who v ls k held of e h =
     with_lives r who 0 ls
     (λ j z d o. let free : has_open j (with_value i v r.lives) ≡ false = ap (λ (xs : List LiveSays). has_open j xs) (sym e) ∙ o in
     let other : j ≢ who = λ g. clash (open_held j i v r.lives k.live k.at (k.session ∙ sym g) held) free in
     (other, sym (open_other j i v r.lives k.live k.at (λ g. other (sym g ∙ k.session))) ∙ free))
-    (subst (λ (xs : List LiveSays). Each (IsLive r.board) xs) (sym e) (lives_valued r.board i v r.lives
-    (λ l g. subst (λ w. IsOf r.board w v) (sym k.session ∙ ap (λ (y : LiveSays). y.session) (one_only k.at g)) of) h.lives)) h
+    (subst (λ (xs : List LiveSays). Each (IsLive r.core) xs) (sym e) (lives_valued r.core i v r.lives
+    (λ l g. subst (λ w. IsOf r.core w v) (sym k.session ∙ ap (λ (y : LiveSays). y.session) (one_only k.at g)) of) h.lives)) h
   where
     one_only : {a b : LiveSays} → slice_get r.lives i ≡ Some a → slice_get r.lives i ≡ Some b → a ≡ b
     one_only f g = cc
@@ -158,13 +157,13 @@ sound_put r i who v ls k held of e h =
 -- The session of a name that is lent.
 pub lent_session : (r : RunSays) (i who : ℕ) (lent : ℕ) → IsLent i who r → Sound lent r → (1 ≤ who) × (who ≤ 64)
 lent_session r i who lent k h =
-    let l : IsLive r.board k.live = Each-at (IsLive r.board) r.lives i k.live k.at h.lives in
+    let l : IsLive r.core k.live = Each-at (IsLive r.core) r.lives i k.live k.at h.lives in
     (subst (λ w. 1 ≤ w) k.session l.low, subst (λ w. w ≤ 64) k.session l.high)
 
 -- Live names are warned.
 pub sound_warned : (r : RunSays) (lent : ℕ) (ls : List LiveSays) → AreWarned r.lives ls → Sound lent r → Sound lent (record r { lives = ls })
 sound_warned r lent ls a h =
-    with_lives r lent lent ls (λ j z d o. (d, sym (open_warned j r.lives ls a) ∙ o)) (lives_warned r.board r.lives ls a h.lives) h
+    with_lives r lent lent ls (λ j z d o. (d, sym (open_warned j r.lives ls a) ∙ o)) (lives_warned r.core r.lives ls a h.lives) h
 
 warned_there : (xs ys : List LiveSays) (i : ℕ) (l : LiveSays) → AreWarned xs ys → slice_get xs i ≡ Some l →
     (m : LiveSays) × (slice_get ys i ≡ Some m) × ((ps : List ℕ) × (m ≡ warned_live ps l))
@@ -191,10 +190,10 @@ sound_remove r i l ls at e h =
     with_lives r 0 (lent_by l.value) ls
     (λ j z d o. (
       z,
-      sym (open_removed j i r.lives l at (gone l.value j z d (Each-at (IsLive r.board) r.lives i l at h.lives).of))
+      sym (open_removed j i r.lives l at (gone l.value j z d (Each-at (IsLive r.core) r.lives i l at h.lives).of))
           ∙ ap (λ (xs : List LiveSays). has_open j xs) (sym e) ∙ o,
     ))
-    (subst (λ (xs : List LiveSays). Each (IsLive r.board) xs) (sym e) (Each-remove (IsLive r.board) r.lives i h.lives)) h
+    (subst (λ (xs : List LiveSays). Each (IsLive r.core) xs) (sym e) (Each-remove (IsLive r.core) r.lives i h.lives)) h
   where
     other_session : (j w : ℕ) → j ≢ w → w ≡ l.session → (v : Value) → ((l.session == j) && is_held v) ≡ false
     other_session j w d e v = both_false (l.session == j) (is_held v) (ne_eqb l.session j (λ g. d (sym g ∙ sym e)))
@@ -203,7 +202,7 @@ sound_remove r i l ls at e h =
     no_value true = refl
     no_value false = refl
 
-    gone : (v : Value) (j : ℕ) → j ≢ 0 → j ≢ lent_by v → IsOf r.board l.session v → ((l.session == j) && is_held v) ≡ false
+    gone : (v : Value) (j : ℕ) → j ≢ 0 → j ≢ lent_by v → IsOf r.core l.session v → ((l.session == j) && is_held v) ≡ false
     gone (Optimist o) j z d f = other_session j o.r.who d f.1 (Optimist o)
     gone (Waiting w) j z d f = other_session j w.r.who d f.1 (Waiting w)
     gone (Granted g) j z d f = other_session j g.r.who d f.1 (Granted g)
@@ -223,17 +222,17 @@ sound_pop r l ls e h =
     removed [] = refl
     removed (x ∷ xs) = ap (λ ys. x ∷ ys) (removed xs)
 
-pub live_last : (t : TableId) (l : LiveSays) (ls : List LiveSays) → Each (IsLive t) (ls ++ l ∷ []) → IsLive t l
-live_last t l [] h = h.0
-live_last t l (x ∷ xs) h = live_last t l xs h.1
+pub live_last : (core : CoreId) (l : LiveSays) (ls : List LiveSays) → Each (IsLive core) (ls ++ l ∷ []) → IsLive core l
+live_last core l [] h = h.0
+live_last core l (x ∷ xs) h = live_last core l xs h.1
 
 -- A name is opened.
-pub sound_push : (r : RunSays) (l : LiveSays) (ls : List LiveSays) → IsLive r.board l → is_held l.value ≡ true → ls ≡ r.lives ++ l ∷ [] → Sound l.session r →
+pub sound_push : (r : RunSays) (l : LiveSays) (ls : List LiveSays) → IsLive r.core l → is_held l.value ≡ true → ls ≡ r.lives ++ l ∷ [] → Sound l.session r →
     Sound 0 (record r { lives = ls })
 sound_push r l ls k held e h =
     with_lives r l.session 0 ls
     (λ j z d o. by j (has_open j r.lives) (l.session == j) refl refl (sym (open_pushed j r.lives l) ∙ ap (λ (xs : List LiveSays). has_open j xs) (sym e) ∙ o))
-    (subst (λ (xs : List LiveSays). Each (IsLive r.board) xs) (sym e) (Each-append (IsLive r.board) r.lives (l ∷ []) h.lives (k, tt))) h
+    (subst (λ (xs : List LiveSays). Each (IsLive r.core) xs) (sym e) (Each-append (IsLive r.core) r.lives (l ∷ []) h.lives (k, tt))) h
   where
     by : (j : ℕ) (a b : Bool) → has_open j r.lives ≡ a → (l.session == j) ≡ b →
         (has_open j r.lives || (((l.session == j) && is_held l.value) || false)) ≡ false →
@@ -267,7 +266,7 @@ pub sound_passed : (r : RunSays) (old new who : ℕ) (p q : PassSays) (h : List 
     q.p.who ≡ p.p.who → (who ≢ new → open_count q.p.mine ≡ 0) → ((j : ℕ) → j ≢ 0 → j ≢ new → j ≢ who → j ≢ old) → Sound old r →
     Sound new (record r { log = h; passes = slice_set r.passes (who - 1) q })
 sound_passed r old new who p q h low at t w idle other s = record {
-  table = s.table;
+  core = s.core;
   sizes = s.sizes;
   given = s.given;
   count = set_length r.passes (who - 1) q ∙ s.count;
@@ -275,10 +274,10 @@ sound_passed r old new who p q h low at t w idle other s = record {
   lives = s.lives;
 }
   where
-    here : IsPass r.board old r.lives (who - 1) p
+    here : IsPass r.core old r.lives (who - 1) p
     here = s.passes (who - 1) p at
 
-    by : (i : ℕ) (x : PassSays) → slice_get (slice_set r.passes (who - 1) q) i ≡ Some x → (b : Bool) → (i == (who - 1)) ≡ b → IsPass r.board new r.lives i x
+    by : (i : ℕ) (x : PassSays) → slice_get (slice_set r.passes (who - 1) q) i ≡ Some x → (b : Bool) → (i == (who - 1)) ≡ b → IsPass r.core new r.lives i x
     by i x e true f =
         let same : i ≡ who - 1 = eqb-true i (who - 1) f in
         let is : x ≡ q = (pass_at r.passes (who - 1) i x q e).1 same in
@@ -298,11 +297,11 @@ sound_passed r old new who p q h low at t w idle other s = record {
 
 -- A value changes in its place.
 pub sound_value : (r : RunSays) (i : ℕ) (l : LiveSays) (v : Value) (ls : List LiveSays) → slice_get r.lives i ≡ Some l → is_held v ≡ is_held l.value →
-    IsOf r.board l.session v → ls ≡ with_value i v r.lives → Sound 0 r → Sound 0 (record r { lives = ls })
+    IsOf r.core l.session v → ls ≡ with_value i v r.lives → Sound 0 r → Sound 0 (record r { lives = ls })
 sound_value r i l v ls at held of e h =
     with_lives r 0 0 ls (λ j z d o. (z, sym (same j r.lives i at) ∙ ap (λ (xs : List LiveSays). has_open j xs) (sym e) ∙ o))
-    (subst (λ (xs : List LiveSays). Each (IsLive r.board) xs) (sym e) (lives_valued r.board i v r.lives
-    (λ k g. subst (λ w. IsOf r.board w v) (ap (λ (y : LiveSays). y.session) (one_only at g)) of) h.lives)) h
+    (subst (λ (xs : List LiveSays). Each (IsLive r.core) xs) (sym e) (lives_valued r.core i v r.lives
+    (λ k g. subst (λ w. IsOf r.core w v) (ap (λ (y : LiveSays). y.session) (one_only at g)) of) h.lives)) h
   where
     one_only : {a b : LiveSays} → slice_get r.lives i ≡ Some a → slice_get r.lives i ≡ Some b → a ≡ b
     one_only f g = cc
@@ -326,8 +325,8 @@ no_open w (l ∷ ls) e = by (l.session == w) (has_name w ls) (is_held l.value) r
     by false false c f g e rest = or_same _ _ (has_open w ls) (both_false (l.session == w) (is_held l.value) f) ∙ rest g
 
 -- the value of a live name, where it is known
-pub of_optimist : (t : TableId) (who : ℕ) (v : Value) (o : OptimistSays) → Optimist o ≡ v → IsOf t who v → (o.table ≡ t) × (o.r.who ≡ who)
-of_optimist t who v o e f = subst (λ (x : Value). IsOf t who x) (sym e) f
+pub of_optimist : (core : CoreId) (who : ℕ) (v : Value) (o : OptimistSays) → Optimist o ≡ v → IsOf core who v → (o.core ≡ core) × (o.r.who ≡ who)
+of_optimist core who v o e f = subst (λ (x : Value). IsOf core who x) (sym e) f
 
-pub of_waiting : (t : TableId) (who : ℕ) (v : Value) (w : WaitingSays) → Waiting w ≡ v → IsOf t who v → (w.table ≡ t) × (w.r.who ≡ who)
-of_waiting t who v w e f = subst (λ (x : Value). IsOf t who x) (sym e) f
+pub of_waiting : (core : CoreId) (who : ℕ) (v : Value) (w : WaitingSays) → Waiting w ≡ v → IsOf core who v → (w.core ≡ core) × (w.r.who ≡ who)
+of_waiting core who v w e f = subst (λ (x : Value). IsOf core who x) (sym e) f

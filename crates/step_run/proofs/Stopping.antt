@@ -37,5 +37,5 @@ pub lacks_rows : (d : DeskState) (mode : Mode) (ls : List Latch) (fault : SeqFau
     → StopsBy (LacksRows mode ls) is
 lacks_rows d mode ls (seq_faults.LatchesFull held asked) is r e = absurd cc
 lacks_rows d mode ls (seq_faults.RowsOut free need) is r e =
-    let same : RowsOut free need ≡ is = cc in subst (StopsBy (LacksRows mode ls)) same r.1
+    let same : RowsOut free need ≡ is = cc in subst (StopsBy (LacksRows mode ls)) same r.2
 lacks_rows d mode ls seq_faults.Memory is r e = let same : Memory ≡ is = cc in subst (StopsBy (LacksRows mode ls)) same tt

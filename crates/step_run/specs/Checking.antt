@@ -27,7 +27,7 @@ abbrev pub undeclared : OptimistSays → List Latch → Option ℕ
 undeclared o asked = position (λ l. not (is_declared o.r.request.latches l)) asked
 
 pub record ChecksAs (old new : OptimistSays) (name : List ℕ) (asked : List Latch) (before after : List ℕ) : Type 0 where
-  pub table : new.table ≡ old.table
+  pub core : new.core ≡ old.core
   pub request : new.r ≡ old.r
   pub passed : new.passed ≡ passed_then old asked (undeclared old asked)
   pub written : after ≡ before ++ checked_text old name asked (undeclared old asked)

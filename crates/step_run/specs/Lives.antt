@@ -1,7 +1,6 @@
 -- What contracts see of the live names of a run.
 use Rattle.std.specs.Prelude.{◌≡◌, ◌≢◌, ℕ, zero, suc, ◌≤◌, Bool, true, false, ◌&&◌, ◌==◌, List, [], ◌∷◌, ◌++◌, Option, Some, None}
 use Rattle.std.specs.List.{Contains, list_any}
-use Rattle.atomic_table.specs.Seated.{TableId}
 use Rattle.latch_model.specs.declared.history.Cause.{Cause}
 use Rattle.latch_model.specs.declared.history.Cause.TheVariants.{None as no_cause, Called, From}
 use Rattle.latch_model.specs.declared.history.Fault.TheVariants.{None as no_fault}
@@ -12,7 +11,7 @@ use Rattle.script.specs.declared.limits.TheConstants.{SESSION_LIMIT}
 use Rattle.signal_board.specs.Says.{first_cause}
 use Rattle.signal_board.specs.Steps.{warned}
 use Rattle.signal_board.specs.Views.{RequestView}
-use Rattle.waiter.specs.Says.{EndingSays}
+use Rattle.waiter.specs.Says.{CoreId, EndingSays}
 use Rattle.latch_model.specs.declared.history.Entry.{Entry}
 use Rattle.sequence_core.specs.Says.{end_entry}
 use Rattle.step_run.specs.declared.live.Live.{Live}
@@ -37,17 +36,17 @@ is_held (Waiting w) = true
 is_held (Granted g) = true
 is_held Over = false
 
--- A value that stands for an open request is of this board, and its request of this session.
-abbrev pub IsOf : TableId → ℕ → Value → Type 0
-IsOf t who (Optimist o) = (o.table ≡ t) × (o.r.who ≡ who)
-IsOf t who (Waiting w) = (w.table ≡ t) × (w.r.who ≡ who)
-IsOf t who (Granted g) = (g.table ≡ t) × (g.r.who ≡ who)
-IsOf t who Over = Unit {0}
+-- A value that stands for an open request is of this core, and its request of this session.
+abbrev pub IsOf : CoreId → ℕ → Value → Type 0
+IsOf core who (Optimist o) = (o.core ≡ core) × (o.r.who ≡ who)
+IsOf core who (Waiting w) = (w.core ≡ core) × (w.r.who ≡ who)
+IsOf core who (Granted g) = (g.core ≡ core) × (g.r.who ≡ who)
+IsOf core who Over = Unit {0}
 
-pub record IsLive (t : TableId) (l : LiveSays) : Type 0 where
+pub record IsLive (core : CoreId) (l : LiveSays) : Type 0 where
   pub low : 1 ≤ l.session
   pub high : l.session ≤ SESSION_LIMIT
-  pub of : IsOf t l.session l.value
+  pub of : IsOf core l.session l.value
 
 -- whether a live name of this session has an open request
 abbrev pub has_open : ℕ → List LiveSays → Bool
@@ -119,9 +118,9 @@ called_value Over = Over
 
 -- how the request of a value ends that is released
 abbrev pub ending_of : Value → Option EndingSays
-ending_of (Optimist o) = Some (record { table = o.table; r = o.r; grant = passed_grant o.passed; fault = no_fault })
-ending_of (Waiting w) = Some (record { table = w.table; r = w.r; grant = Never; fault = no_fault })
-ending_of (Granted g) = Some (record { table = g.table; r = g.r; grant = g.grant; fault = no_fault })
+ending_of (Optimist o) = Some (record { core = o.core; r = o.r; grant = passed_grant o.passed; fault = no_fault })
+ending_of (Waiting w) = Some (record { core = w.core; r = w.r; grant = Never; fault = no_fault })
+ending_of (Granted g) = Some (record { core = g.core; r = g.r; grant = g.grant; fault = no_fault })
 ending_of Over = None
 
 -- the session whose request a value is, or 0 where it is over

@@ -1,6 +1,5 @@
 -- What stands for a request that has begun just now.
 use Rattle.std.specs.Prelude.{ℕ, ◌≤◌, ◌++◌, List, [], ◌∷◌, map, Option, Some, None, codes, decimal}
-use Rattle.atomic_table.specs.Seated.{TableId}
 use Rattle.latch_model.specs.Declaration.{Declaration}
 use Rattle.latch_model.specs.Histories.{ascending}
 use Rattle.latch_model.specs.declared.history.Entry.{Entry}
@@ -9,10 +8,11 @@ use Rattle.latch_model.specs.declared.latch.Mode.TheVariants.{Acquire, Optimisti
 use Rattle.report.specs.Words.{numbers_text}
 use Rattle.script.specs.declared.limits.TheConstants.{TURN_LIMIT}
 use Rattle.sequence_core.specs.Says.{next_entry}
+use Rattle.shot_walks.specs.Waits.{waits_for}
 use Rattle.signal_board.specs.Says.{shown_to}
 use Rattle.signal_board.specs.Steps.{new_request}
 use Rattle.signal_board.specs.Views.{RequestView}
-use Rattle.waiter.specs.Says.{OptimistSays, Unpolled, WaitingSays, waits_for}
+use Rattle.waiter.specs.Says.{CoreId, OptimistSays, Unpolled, WaitingSays}
 use Rattle.step_run.specs.Lives.{LiveSays}
 use Rattle.step_run.specs.declared.live.Value.{Value}
 use Rattle.step_run.specs.declared.live.Value.TheVariants.{Optimist, Waiting, Granted, Over}
@@ -23,16 +23,16 @@ begun_request log who mode request =
     let e : Entry = next_entry log who mode request in
     shown_to (log ++ e ∷ []) (new_request log e)
 
-abbrev pub new_waiting : TableId → RequestView → WaitingSays
-new_waiting t r = record { table = t; r = r; turns = 0; last = Unpolled }
+abbrev pub new_waiting : CoreId → RequestView → WaitingSays
+new_waiting core r = record { core = core; r = r; turns = 0; last = Unpolled }
 
-abbrev pub new_optimist : TableId → RequestView → OptimistSays
-new_optimist t r = record { table = t; r = r; met = None; passed = None }
+abbrev pub new_optimist : CoreId → RequestView → OptimistSays
+new_optimist core r = record { core = core; r = r; met = None; passed = None }
 
-abbrev pub begun_value : TableId → Mode → RequestView → Value
-begun_value t Acquire r = Waiting (new_waiting t r)
-begun_value t optimistic_mode r = Optimist (new_optimist t r)
-begun_value t Look r = Waiting (new_waiting t r)
+abbrev pub begun_value : CoreId → Mode → RequestView → Value
+begun_value core Acquire r = Waiting (new_waiting core r)
+begun_value core optimistic_mode r = Optimist (new_optimist core r)
+begun_value core Look r = Waiting (new_waiting core r)
 
 abbrev pub opening_of : Opening → Value → LiveSays
 opening_of o v = record { name = o.name.now; session = o.session; mode = o.mode; turns = o.turns; value = v }

@@ -2,7 +2,6 @@
 use Rattle.std.specs.Prelude.{◌≡◌, ◌≢◌, ℕ, zero, suc, ◌+◌, ◌^◌, ◌<◌, ◌-◌, min, Bool, true, false, not, List, [], ◌∷◌, ◌++◌, length}
 use Rattle.std.specs.Prelude.{Option, Some, None, slice_get}
 use Rattle.std.specs.List.{filter}
-use Rattle.atomic_table.specs.Seated.{TableId}
 use Rattle.latch_model.specs.Histories.{HeldLatch, has_ended, latches_of, met, shot}
 use Rattle.latch_model.specs.Latches.{normal}
 use Rattle.latch_model.specs.declared.history.Entry.{Entry}
@@ -14,7 +13,7 @@ use Rattle.script.specs.declared.limits.TheConstants.{SESSION_LIMIT}
 use Rattle.signal_board.specs.Rule.{open_count}
 use Rattle.signal_board.specs.Says.{PassSays}
 use Rattle.signal_board.specs.Views.{RequestView}
-use Rattle.waiter.specs.Says.{Blocked, Poisoned, Ready, WaitingSays}
+use Rattle.waiter.specs.Says.{Blocked, CoreId, Poisoned, Ready, WaitingSays}
 use Rattle.step_run.specs.State.{Granted, Named, Optimistic, Over, Pending, Phase, State, is_poisoned_in}
 use Rattle.step_run.specs.Steps.{Step, spread_to}
 use Rattle.step_run.specs.Valid.{Valid}
@@ -22,10 +21,10 @@ use Rattle.step_run.specs.Lives.{IsLive, LiveSays, has_open}
 use Rattle.step_run.specs.declared.live.Value.{Value}
 use Rattle.step_run.specs.declared.live.Value.TheVariants.{Optimist, Waiting, Granted as GrantedValue, Over as OverValue}
 
--- A run: the tables of its board and its desk, the desk's sizes, how many passes it gave and its history, the passes and the live names.
+-- A run: its core and that of its desk, the desk's sizes, how many passes it gave and its history, the passes and the live names.
 pub record RunSays : Type 0 where
-  pub board : TableId
-  pub desk : TableId
+  pub core : CoreId
+  pub desk : CoreId
   pub sizes : Sizes
   pub given : ℕ
   pub log : List Entry
@@ -38,19 +37,19 @@ program_sizes = record { latches = 1024; lanes = 64; rows = 98304 }
 
 -- Pass number i, from 0, is of session i + 1. It has no open request where no live name of the session has one; of one session that is left
 -- open.
-pub record IsPass (t : TableId) (lent : ℕ) (ls : List LiveSays) (i : ℕ) (p : PassSays) : Type 0 where
-  pub table : p.table ≡ t
+pub record IsPass (core : CoreId) (lent : ℕ) (ls : List LiveSays) (i : ℕ) (p : PassSays) : Type 0 where
+  pub table : p.table ≡ core.signals
   pub who : p.p.who ≡ i + 1
   pub idle : i + 1 ≢ lent → has_open (i + 1) ls ≡ false → open_count p.p.mine ≡ 0
 
 -- All that a run needs to go on and to be closed. The request of one session, or of none where that is 0, may be lent to a call.
 pub record Sound (lent : ℕ) (r : RunSays) : Type 0 where
-  pub table : r.desk ≡ r.board
+  pub core : r.desk ≡ r.core
   pub sizes : r.sizes ≡ program_sizes
   pub given : r.given ≡ SESSION_LIMIT
   pub count : length r.passes ≡ SESSION_LIMIT
-  pub passes : (i : ℕ) (p : PassSays) → slice_get r.passes i ≡ Some p → IsPass r.board lent r.lives i p
-  pub lives : Each (IsLive r.board) r.lives
+  pub passes : (i : ℕ) (p : PassSays) → slice_get r.passes i ≡ Some p → IsPass r.core lent r.lives i p
+  pub lives : Each (IsLive r.core) r.lives
 
 -- The live name at a place is of this session, and its value is lent to a call.
 pub record IsLent (i who : ℕ) (r : RunSays) : Type 0 where

@@ -8,7 +8,7 @@ ghost use Rattle.step_run.specs.Runs.{Makes, Sound, Stands};
 ghost use Rattle.step_run.specs.Seen.{seen_run};
 ghost use Rattle.step_run.specs.State.{Named, State};
 ghost use Rattle.step_run.specs.Steps.{checked, on_name, one, poisoned, released, waited};
-ghost use Rattle.waiter.specs.Says.{OptimistSays};
+ghost use Rattle.waiter.specs.Says.{OptimistSays, id_of};
 
 use crate::fault::RunFault;
 use crate::lines::{checked_line, metrics_line, number_line, words_line};
@@ -154,8 +154,8 @@ fn check_value(
     out: &mut Vec<u8>,
 ) -> Result<(), Memory>
     requires optimistic { (o : OptimistSays) × (value.old ≡ Value.Optimist o) }
-    requires table { (who : ℕ) × IsOf core.now.board.table who value.old }
-    ensures kept { (o : OptimistSays) → value.old ≡ Value.Optimist o → (p : OptimistSays) × (value.new ≡ Value.Optimist p) × (p.table ≡ o.table) × (p.r ≡ o.r) }
+    requires core { (who : ℕ) × IsOf (id_of core.now) who value.old }
+    ensures kept { (o : OptimistSays) → value.old ≡ Value.Optimist o → (p : OptimistSays) × (value.new ≡ Value.Optimist p) × (p.core ≡ o.core) × (p.r ≡ o.r) }
     ensures checked { (o : OptimistSays) → value.old ≡ Value.Optimist o → OnOk result ((p : OptimistSays) × (value.new ≡ Value.Optimist p)
         × ChecksAs o p name.now asked out.old.items out.new.items) }
 {
@@ -173,8 +173,8 @@ fn check_latches(
     asked: Latches,
     out: &mut Vec<u8>,
 ) -> Result<(), Memory>
-    requires { optimist.old.table ≡ core.now.board.table }
-    ensures kept { (optimist.new.table ≡ optimist.old.table) × (optimist.new.r ≡ optimist.old.r) }
+    requires { optimist.old.core ≡ id_of core.now }
+    ensures kept { (optimist.new.core ≡ optimist.old.core) × (optimist.new.r ≡ optimist.old.r) }
     ensures checked { OnOk result (ChecksAs optimist.old optimist.new name.now asked out.old.items out.new.items) }
 {
     match optimist.check(core, asked) {

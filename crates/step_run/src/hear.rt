@@ -3,14 +3,15 @@ ghost use Rattle.std.specs.Prelude.{◌≡◌, ◌<◌, ℕ, List, map, length, 
 ghost use Rattle.latch_model.proofs.Elements.{Each};
 ghost use Rattle.signal_board.specs.Steps.{warned};
 ghost use Rattle.step_run.specs.Lives.{AreHeard, AreWarned, Heard, HeardOf, IsLive, IsOf, LiveSays, seen_live, warned_value, with_value};
+ghost use Rattle.waiter.specs.Says.{id_of};
 
 use crate::live::{Live, Value, is_none};
 use waiter::{Core, Granted, Optimist, Waiting};
 
 /// Hears each live request that has a cause, and the one of this number.
 pub(crate) fn hear_some(core: &Core, lives: &mut Vec<Live>, waiting: &mut Waiting, by: u64)
-    requires lives { Each (IsLive core.now.board.table) (map seen_live lives.old.items) }
-    requires table { waiting.old.table ≡ core.now.board.table }
+    requires lives { Each (IsLive (id_of core.now)) (map seen_live lives.old.items) }
+    requires core { waiting.old.core ≡ id_of core.now }
     ensures lives { AreWarned (map seen_live lives.old.items) (map seen_live lives.new.items) }
     ensures waiting { (ps : List ℕ) × (waiting.new ≡ record waiting.old { r = warned ps waiting.old.r }) }
     ensures heard { AreHeard by waiting.old.r waiting.new.r (map seen_live lives.old.items) }
@@ -23,8 +24,8 @@ pub(crate) fn hear_some(core: &Core, lives: &mut Vec<Live>, waiting: &mut Waitin
 // The same of the name at a place.
 fn hear_at(core: &Core, lives: &mut Vec<Live>, i: usize, waiting: &mut Waiting, by: u64)
     requires inside { i < length lives.old.items }
-    requires live { (l : LiveSays) → slice_get (map seen_live lives.old.items) i ≡ Some l → IsLive core.now.board.table l }
-    requires table { waiting.old.table ≡ core.now.board.table }
+    requires live { (l : LiveSays) → slice_get (map seen_live lives.old.items) i ≡ Some l → IsLive (id_of core.now) l }
+    requires core { waiting.old.core ≡ id_of core.now }
     ensures lives { (l : LiveSays) → slice_get (map seen_live lives.old.items) i ≡ Some l →
         (ps : List ℕ) × (map seen_live lives.new.items ≡ with_value i (warned_value ps l.value) (map seen_live lives.old.items)) }
     ensures waiting { (ps : List ℕ) × (waiting.new ≡ record waiting.old { r = warned ps waiting.old.r }) }
@@ -36,8 +37,8 @@ fn hear_at(core: &Core, lives: &mut Vec<Live>, i: usize, waiting: &mut Waiting, 
 
 // The same of one value.
 fn hear(core: &Core, value: &mut Value, waiting: &mut Waiting, by: u64)
-    requires value { (who : ℕ) × IsOf core.now.board.table who value.old }
-    requires table { waiting.old.table ≡ core.now.board.table }
+    requires value { (who : ℕ) × IsOf (id_of core.now) who value.old }
+    requires core { waiting.old.core ≡ id_of core.now }
     ensures value { (ps : List ℕ) × (value.new ≡ warned_value ps value.old) }
     ensures waiting { (ps : List ℕ) × (waiting.new ≡ record waiting.old { r = warned ps waiting.old.r }) }
     ensures heard { Heard by waiting.old.r waiting.new.r value.old }
@@ -51,7 +52,7 @@ fn hear(core: &Core, value: &mut Value, waiting: &mut Waiting, by: u64)
 }
 
 fn hear_optimist(core: &Core, other: &mut Optimist, waiting: &mut Waiting, by: u64)
-    requires tables { (waiting.old.table ≡ core.now.board.table) × (other.old.table ≡ core.now.board.table) }
+    requires core { (waiting.old.core ≡ id_of core.now) × (other.old.core ≡ id_of core.now) }
     ensures other { (ps : List ℕ) × (other.new ≡ record other.old { r = warned ps other.old.r }) }
     ensures waiting { (ps : List ℕ) × (waiting.new ≡ record waiting.old { r = warned ps waiting.old.r }) }
     ensures heard { HeardOf by waiting.old.r waiting.new.r other.old.r }
@@ -62,7 +63,7 @@ fn hear_optimist(core: &Core, other: &mut Optimist, waiting: &mut Waiting, by: u
 }
 
 fn hear_waiting(core: &Core, other: &mut Waiting, waiting: &mut Waiting, by: u64)
-    requires tables { (waiting.old.table ≡ core.now.board.table) × (other.old.table ≡ core.now.board.table) }
+    requires core { (waiting.old.core ≡ id_of core.now) × (other.old.core ≡ id_of core.now) }
     ensures other { (ps : List ℕ) × (other.new ≡ record other.old { r = warned ps other.old.r }) }
     ensures waiting { (ps : List ℕ) × (waiting.new ≡ record waiting.old { r = warned ps waiting.old.r }) }
     ensures heard { HeardOf by waiting.old.r waiting.new.r other.old.r }
@@ -73,7 +74,7 @@ fn hear_waiting(core: &Core, other: &mut Waiting, waiting: &mut Waiting, by: u64
 }
 
 fn hear_granted(core: &Core, other: &mut Granted, waiting: &mut Waiting, by: u64)
-    requires tables { (waiting.old.table ≡ core.now.board.table) × (other.old.table ≡ core.now.board.table) }
+    requires core { (waiting.old.core ≡ id_of core.now) × (other.old.core ≡ id_of core.now) }
     ensures other { (ps : List ℕ) × (other.new ≡ record other.old { r = warned ps other.old.r }) }
     ensures waiting { (ps : List ℕ) × (waiting.new ≡ record waiting.old { r = warned ps waiting.old.r }) }
     ensures heard { HeardOf by waiting.old.r waiting.new.r other.old.r }

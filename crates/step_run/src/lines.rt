@@ -2,7 +2,6 @@
 ghost use Rattle.std.specs.Prelude.{◌≡◌, ◌∷◌, ◌++◌, codes, decimal, Some, OnOk};
 ghost use Rattle.latch_model.specs.Histories.{HeldLatch};
 ghost use Rattle.report.specs.Words.{marked, numbers_text};
-ghost use Rattle.sequence_core.specs.Counted.{metrics_of};
 ghost use Rattle.step_run.specs.Texts.{counts_line, met_text, named_line};
 ghost use Rattle.waiter.specs.Says.{Blocked, Poisoned};
 

@@ -5,6 +5,7 @@ ghost use Rattle.script.specs.Commands.{same_name};
 ghost use Rattle.latch_model.specs.declared.history.Fault.TheVariants.{None as no_fault};
 ghost use Rattle.script.specs.Follows.{passed_grant};
 ghost use Rattle.step_run.specs.Lives.{IsOf, LiveSays, called_value, ending_of, is_none, may_poison, seen_live, with_value};
+ghost use Rattle.waiter.specs.Says.{id_of};
 
 use latch_model::history::{Cause, Fault};
 use latch_model::latch::Mode;
@@ -66,7 +67,7 @@ pub(crate) fn put(lives: &mut Vec<Live>, i: usize, value: Value)
 
 /// A request that is open and has no cause gets one. The answer is whether it did.
 pub(crate) fn poison(core: &Core, value: &mut Value) -> bool
-    requires { (who : ℕ) × IsOf core.now.board.table who value.old }
+    requires { (who : ℕ) × IsOf (id_of core.now) who value.old }
     ensures value { value.new ≡ called_value value.old }
     ensures called { result ≡ may_poison value.old }
 {
@@ -92,7 +93,7 @@ pub(crate) fn poison(core: &Core, value: &mut Value) -> bool
 
 /// The end of the request of a name that is released, unless it is over.
 pub(crate) fn ending(core: &Core, value: Value) -> Option<Ending>
-    requires { (who : ℕ) × IsOf core.now.board.table who value }
+    requires { (who : ℕ) × IsOf (id_of core.now) who value }
     ensures { result ≡ ending_of value }
 {
     match value {
@@ -108,8 +109,8 @@ pub(crate) fn ending(core: &Core, value: Value) -> Option<Ending>
 
 // An optimistic request ends by the check that passed, where one stands.
 fn check_ending(core: &Core, optimist: Optimist) -> Ending
-    requires { optimist.table ≡ core.now.board.table }
-    ensures { result ≡ record { table = optimist.table; r = optimist.r; grant = passed_grant optimist.passed; fault = no_fault } }
+    requires { optimist.core ≡ id_of core.now }
+    ensures { result ≡ record { core = optimist.core; r = optimist.r; grant = passed_grant optimist.passed; fault = no_fault } }
 {
     if optimist.passed() {
         optimist.confirm(core).finish()

@@ -13,6 +13,7 @@ ghost use Rattle.step_run.specs.Seen.{seen_run};
 ghost use Rattle.step_run.specs.State.{Named, State};
 ghost use Rattle.step_run.specs.Steps.{first_phase, first_turn as first_step, opening as opening_step};
 ghost use Rattle.step_run.specs.Texts.{named_line};
+ghost use Rattle.waiter.specs.Says.{id_of};
 
 use crate::command::wait_at;
 use crate::fault::{RunFault, run_fault};
@@ -78,7 +79,7 @@ fn begin(
     ensures stops { IfErr result (StopsBy (LacksRows mode request.latches)) }
     ensures lives { (run.new.lives ≡ run.old.lives) × (run.new.core ≡ run.old.core) × (run.new.lives.items ≡ run.old.lives.items) }
     ensures log { OnOk result (run.new.desk.log ≡ run.old.desk.log ++ next_entry run.old.desk.log session mode request ∷ []) }
-    ensures value { IfOk result (λ value. value ≡ begun_value run.old.core.board.table mode (begun_request run.old.desk.log session mode request)) }
+    ensures value { IfOk result (λ value. value ≡ begun_value (id_of run.old.core) mode (begun_request run.old.desk.log session mode request)) }
 {
     let place = session as usize - 1;
     match run
@@ -139,7 +140,7 @@ fn begun_line(
     out: &mut Vec<u8>,
 ) -> Result<(), Memory>
     requires begun { IsBegun value.old }
-    requires table { (who : ℕ) × IsOf core.now.board.table who value.old }
+    requires core { (who : ℕ) × IsOf (id_of core.now) who value.old }
     ensures value { value.new ≡ value.old }
     ensures line { OnOk result (out.new.items ≡ out.old.items ++ named_line name.now (opening_text value.old)) }
 {

@@ -6,6 +6,7 @@ ghost use Rattle.step_run.specs.Lives.{IsOf, ended_with, lent_by};
 ghost use Rattle.step_run.specs.Runs.{Sound, Stands};
 ghost use Rattle.step_run.specs.Seen.{seen_run};
 ghost use Rattle.step_run.specs.State.{start};
+ghost use Rattle.waiter.specs.Says.{id_of};
 
 use crate::live::{Live, Value, ending};
 use latch_model::history::{History, Sizes};
@@ -16,7 +17,7 @@ use span_key::Memory;
 use std::alloc::Global;
 use waiter::{Core, Ending};
 
-/// The requests' board, the desk, pass w - 1 of each session w, and the live names in the order of their opening.
+/// What the requests share, the desk, pass w - 1 of each session w, and the live names in the order of their opening.
 pub(crate) struct StepRun<'s> {
     pub(crate) core: Core,
     pub(crate) desk: Desk,
@@ -49,7 +50,7 @@ pub(crate) fn start<'s>(alloc: Global) -> Result<StepRun<'s>, Memory>
 /// Ends a request that was lent.
 pub(crate) fn end(run: &mut StepRun, ending: Ending)
     requires sound { Sound ending.r.who (seen_run run.old) }
-    requires table { ending.table ≡ run.old.core.board.table }
+    requires core { ending.core ≡ id_of run.old.core }
     requires session { (1 ≤ ending.r.who) × (ending.r.who ≤ SESSION_LIMIT) }
     ensures sound { Sound 0 (seen_run run.new) }
     ensures log { run.new.desk.log ≡ run.old.desk.log ++ end_entry ending ∷ [] }
@@ -62,7 +63,7 @@ pub(crate) fn end(run: &mut StepRun, ending: Ending)
 /// Ends the request of a value that was lent, unless it is over.
 pub(crate) fn end_value(run: &mut StepRun, value: Value)
     requires sound { Sound (lent_by value) (seen_run run.old) }
-    requires value { (who : ℕ) × (1 ≤ who) × (who ≤ SESSION_LIMIT) × IsOf run.old.core.board.table who value }
+    requires value { (who : ℕ) × (1 ≤ who) × (who ≤ SESSION_LIMIT) × IsOf (id_of run.old.core) who value }
     ensures sound { Sound 0 (seen_run run.new) }
     ensures log { run.new.desk.log ≡ ended_with value run.old.desk.log }
     ensures lives { run.new.lives.items ≡ run.old.lives.items }

@@ -14,7 +14,7 @@ ghost use Rattle.step_run.specs.Seen.{seen_run};
 ghost use Rattle.step_run.specs.State.{Named, Pending, State};
 ghost use Rattle.step_run.specs.Steps.{counted_turn, granted as granted_state, is_over, spent_turn, turn};
 ghost use Rattle.step_run.specs.Texts.{met_text, named_line, spread_text};
-ghost use Rattle.waiter.specs.Says.{Blocked, MayAbandon, Poisoned, Ready, WaitingSays};
+ghost use Rattle.waiter.specs.Says.{Blocked, MayAbandon, Poisoned, Ready, WaitingSays, id_of};
 
 use crate::hear::hear_some;
 use crate::lines::{number_line, polled_line, words_line};
@@ -36,7 +36,7 @@ pub(crate) fn turn(
 ) -> Result<(), Memory>
     requires lent { IsLent i waiting.r.who (seen_run run.old) }
     requires sound { Sound waiting.r.who (seen_run run.old) }
-    requires table { waiting.table ≡ run.old.core.board.table }
+    requires core { waiting.core ≡ id_of run.old.core }
     ensures sound { Sound 0 (seen_run run.new) }
     ensures turn { (s : State) (n : Named) → StandsBut i s (seen_run run.old) → slice_get s.names i ≡ Some n → n.phase ≡ Pending →
         FitsRequest s.history n waiting.r → FitsTurns n.turns n.counted waiting.turns →
@@ -52,11 +52,11 @@ pub(crate) fn turn(
 
 // What a turn meets: the request has been shown the whole history, and has heard who has a cause.
 fn ask(run: &mut StepRun, waiting: &mut Waiting) -> Polled
-    requires lives { Each (IsLive run.old.core.board.table) (seen_run run.old).lives }
-    requires tables { (waiting.old.table ≡ run.old.core.board.table) × (run.old.desk.table ≡ run.old.core.board.table) }
+    requires lives { Each (IsLive (id_of run.old.core)) (seen_run run.old).lives }
+    requires core { (waiting.old.core ≡ id_of run.old.core) × (run.old.desk.core ≡ id_of run.old.core) }
     ensures desk { (run.new.core ≡ run.old.core) × (run.new.desk ≡ run.old.desk) × (run.new.passes.items ≡ run.old.passes.items) }
     ensures lives { AreWarned (seen_run run.old).lives (seen_run run.new).lives }
-    ensures same { (waiting.new.table ≡ waiting.old.table) × (waiting.new.r.who ≡ waiting.old.r.who) }
+    ensures same { (waiting.new.core ≡ waiting.old.core) × (waiting.new.r.who ≡ waiting.old.r.who) }
     ensures last { LastIs waiting.new result }
     ensures asked { (s : State) (i : ℕ) (n : Named) → StandsBut i s (seen_run run.old) → slice_get s.names i ≡ Some n →
         FitsRequest s.history n waiting.old.r → Asked s n waiting.old waiting.new result }
@@ -83,7 +83,7 @@ fn blocker(polled: Polled) -> u64
 fn grant(run: &mut StepRun, i: usize, waiting: Waiting, out: &mut Vec<u8>) -> Result<(), Memory>
     requires lent { IsLent i waiting.r.who (seen_run run.old) }
     requires sound { Sound waiting.r.who (seen_run run.old) }
-    requires table { waiting.table ≡ run.old.core.board.table }
+    requires core { waiting.core ≡ id_of run.old.core }
     requires ready { waiting.last ≡ Ready }
     ensures sound { Sound 0 (seen_run run.new) }
     ensures turn { (s : State) (n : Named) (old : WaitingSays) → StandsBut i s (seen_run run.old) → slice_get s.names i ≡ Some n → is_over n.phase ≡ false →
@@ -97,12 +97,12 @@ fn grant(run: &mut StepRun, i: usize, waiting: Waiting, out: &mut Vec<u8>) -> Re
 
 // The request is granted by a front, which is the number of entries where it has been shown all of them.
 fn stamp(core: &Core, desk: &mut Desk, waiting: Waiting) -> (Granted, u64)
-    requires tables { (desk.old.table ≡ core.now.board.table) × (waiting.table ≡ core.now.board.table) }
+    requires core { (desk.old.core ≡ id_of core.now) × (waiting.core ≡ id_of core.now) }
     requires ready { waiting.last ≡ Ready }
     ensures desk { desk.new ≡ desk.old }
     ensures front { waiting.r.shown ≡ desk.old.log → result.1 ≡ length desk.old.log }
     ensures granted { result.0 ≡ record {
-      table = waiting.table;
+      core = waiting.core;
       r = record waiting.r { shown = desk.old.log; front = Some result.1 };
       grant = Waited result.1;
     } }
@@ -128,7 +128,7 @@ fn front_of(granted: &Granted) -> u64
 fn settle(run: &mut StepRun, i: usize, granted: Granted)
     requires lent { IsLent i granted.r.who (seen_run run.old) }
     requires sound { Sound granted.r.who (seen_run run.old) }
-    requires table { granted.table ≡ run.old.core.board.table }
+    requires core { granted.core ≡ id_of run.old.core }
     ensures sound { Sound 0 (seen_run run.new) }
     ensures stands { (s : State) (n : Named) → StandsBut i s (seen_run run.old) → slice_get s.names i ≡ Some n → is_over n.phase ≡ false →
         FitsRequest s.history n granted.r → granted.grant ≡ Waited (length s.history) → Stands (granted_state n.mode n s) (seen_run run.new) }
@@ -149,7 +149,7 @@ fn fail(
 ) -> Result<(), Memory>
     requires lent { IsLent i waiting.r.who (seen_run run.old) }
     requires sound { Sound waiting.r.who (seen_run run.old) }
-    requires table { waiting.table ≡ run.old.core.board.table }
+    requires core { waiting.core ≡ id_of run.old.core }
     requires poisoned { (x : HeldLatch) × (waiting.last ≡ Poisoned x) × (x.by ≡ by) }
     ensures sound { Sound 0 (seen_run run.new) }
     ensures turn { (s : State) (n : Named) (old : WaitingSays) → StandsBut i s (seen_run run.old) → slice_get s.names i ≡ Some n → is_over n.phase ≡ false →
@@ -163,7 +163,7 @@ fn fail(
 // A waiting request that was lent ends with a fault.
 fn give_up(run: &mut StepRun, waiting: Waiting, fault: Fault)
     requires sound { Sound waiting.r.who (seen_run run.old) }
-    requires table { waiting.table ≡ run.old.core.board.table }
+    requires core { waiting.core ≡ id_of run.old.core }
     requires session { (1 ≤ waiting.r.who) × (waiting.r.who ≤ SESSION_LIMIT) }
     requires fault { MayAbandon waiting fault }
     ensures sound { Sound 0 (seen_run run.new) }
@@ -185,7 +185,7 @@ fn block(
 ) -> Result<(), Memory>
     requires lent { IsLent i waiting.r.who (seen_run run.old) }
     requires sound { Sound waiting.r.who (seen_run run.old) }
-    requires table { waiting.table ≡ run.old.core.board.table }
+    requires core { waiting.core ≡ id_of run.old.core }
     requires blocked { (x : HeldLatch) × (waiting.last ≡ Blocked x) }
     ensures sound { Sound 0 (seen_run run.new) }
     ensures turn { (s : State) (n : Named) (old : WaitingSays) → StandsBut i s (seen_run run.old) → slice_get s.names i ≡ Some n → n.phase ≡ Pending →
@@ -238,7 +238,7 @@ fn is_new(had_cause: bool, cause: Cause) -> bool
 fn spend(run: &mut StepRun, i: usize, waiting: Waiting, out: &mut Vec<u8>) -> Result<(), Memory>
     requires lent { IsLent i waiting.r.who (seen_run run.old) }
     requires sound { Sound waiting.r.who (seen_run run.old) }
-    requires table { waiting.table ≡ run.old.core.board.table }
+    requires core { waiting.core ≡ id_of run.old.core }
     requires blocked { (x : HeldLatch) × (waiting.last ≡ Blocked x) }
     ensures sound { Sound 0 (seen_run run.new) }
     ensures spent { (s : State) (n m : Named) → StandsBut i s (seen_run run.old) → slice_get s.names i ≡ Some n → is_over n.phase ≡ false →
@@ -264,7 +264,7 @@ fn count(
 ) -> Result<(), Memory>
     requires lent { IsLent i waiting.r.who (seen_run run.old) }
     requires sound { Sound waiting.r.who (seen_run run.old) }
-    requires table { waiting.table ≡ run.old.core.board.table }
+    requires core { waiting.core ≡ id_of run.old.core }
     requires blocked { (x : HeldLatch) × (waiting.last ≡ Blocked x) }
     ensures sound { Sound 0 (seen_run run.new) }
     ensures counted { (s : State) (n m : Named) → StandsBut i s (seen_run run.old) → slice_get s.names i ≡ Some n → is_over n.phase ≡ false →

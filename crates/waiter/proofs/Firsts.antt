@@ -1,15 +1,11 @@
--- Where the first of a list stands, and what is met where nothing was passed.
+-- Where the first of a list stands.
 use Rattle.std.proofs.Common.{◌≡◌, ◌+◌, ◌<◌, ◌∙◌, ◌⊎◌, ℕ, zero, suc, Bool, true, false, cond, List}
-use Rattle.std.proofs.Common.{[], ◌∷◌, ◌++◌, length, get_or, Some, None, refl, sym, ap, subst, inl, inr, arith}
+use Rattle.std.proofs.Common.{[], ◌∷◌, length, get_or, Some, None, refl, sym, ap, subst, inl, inr, arith}
 use Rattle.std.proofs.lemmas.Bool.{le-ltb, lt-ltb}
 use Rattle.std.proofs.lemmas.List.{get_or_default}
 use Rattle.std.proofs.lemmas.List.Sums.{position_or_len_is}
-use Rattle.std.specs.List.{flat_map, position, position_or_len}
+use Rattle.std.specs.List.{position, position_or_len}
 use Rattle.std.specs.Prelude.{nat_lt}
-use Rattle.latch_model.specs.Histories.{HeldLatch, Snapshot, met_by}
-use Rattle.latch_model.specs.declared.latch.Latch.{Latch}
-use Rattle.waiter.specs.Walks.{AllEnded, MetAt, met_in_front}
-use Rattle.waiter.proofs.Walking.{stands}
 
 pub position_found : {X : Type 0} (q : X → Bool) (xs : List X) (i : ℕ) (d : X) → i < length xs → ((k : ℕ) → k < i → q (get_or xs k d) ≡ false) →
     q (get_or xs i d) ≡ true → position q xs ≡ Some i
@@ -43,15 +39,3 @@ one_more {X} P xs i x lt e p all j d less = by (less_or_same j i less)
     by : (j < i) ⊎ (j ≡ i) → P (get_or xs j d)
     by (inl a) = all j d a
     by (inr same) = subst (λ n. P (get_or xs n d)) (sym same) (subst P (e ∙ get_or_default xs i x d lt) p)
-
--- nothing stands where each is known ended and none is
-pub none_met : (xs : List HeldLatch) → AllEnded [] xs → xs ≡ []
-none_met [] all = refl
-none_met (x ∷ xs) all = let w = all x (0, omega arith, refl) in absurd (let lt = w.1 in omega arith)
-
--- the first that is met
-pub met_first : (s : Snapshot) (ls : List Latch) (k at : ℕ) (x : HeldLatch) → AllEnded [] (met_in_front s ls k at) → MetAt s ls k at x →
-    (rest : List HeldLatch) × (flat_map (met_by s) ls ≡ x ∷ rest)
-met_first s ls k at x none m =
-    let w = stands s ls k at x m in
-    (w.0, w.1 ∙ ap (λ zs. zs ++ x ∷ w.0) (none_met (met_in_front s ls k at) none))

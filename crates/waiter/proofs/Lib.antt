@@ -1,6 +1,3 @@
 pub mod Keeping
-pub mod Walking
-pub mod Orders
 pub mod Polling
 pub mod Firsts
-pub mod Numbering

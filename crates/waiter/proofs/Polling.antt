@@ -1,41 +1,28 @@
 -- What the steps of a poll leave.
-use Rattle.std.proofs.Common.{◌≡◌, ◌+◌, ◌-◌, ◌^◌, ◌≤◌, ◌∙◌, ℕ, min, Bool, true, false, List, [], ◌∷◌, Some, refl, sym, ap, subst, inl, inr, arith}
-use Rattle.std.specs.List.{Contains, slice_get}
-use Rattle.latch_model.specs.Declaration.{Declaration}
-use Rattle.latch_model.specs.Histories.{HeldLatch, Snapshot, has_ended, in_waiting_order, met_in}
+use Rattle.std.proofs.Common.{◌≡◌, ◌+◌, ◌-◌, ◌^◌, ◌≤◌, ◌∙◌, ℕ, min, Bool, true, false, List, [], ◌∷◌, refl, sym, ap, subst, inl, inr, arith}
+use Rattle.std.specs.List.{Contains}
+use Rattle.latch_model.specs.Histories.{HeldLatch}
 use Rattle.latch_model.specs.declared.history.Cause.TheVariants.{From}
-use Rattle.latch_model.specs.declared.latch.Latch.{Latch}
 use Rattle.latch_model.specs.declared.latch.Policy.{Policy}
 use Rattle.latch_model.specs.declared.latch.Policy.TheVariants.{Wait, Error}
+use Rattle.latch_model.specs.Declaration.{Declaration}
+use Rattle.latch_model.specs.declared.latch.Mode.{Mode}
+use Rattle.latch_shots.specs.Shots.{content_of}
+use Rattle.latch_shots.specs.declared.shots.Shots.{Shots}
+use Rattle.shot_walks.specs.Orders.{IsOrder}
+use Rattle.shot_walks.specs.Places.{Stands}
+use Rattle.shot_walks.specs.declared.place.Place.{Place}
+use Rattle.waiter.specs.Kept.{WaitingKept, WalkKept, stood_at}
+use Rattle.shot_walks.specs.Waits.{AllEnded, FirstOpen, Learns, waits_for}
+use Rattle.shot_walks.proofs.Ends.{passed_ahead, passed_grow, waits_still}
 use Rattle.signal_board.specs.Rule.{IsPrerequisite}
 use Rattle.signal_board.specs.Says.{LaneSays, first_cause, told_cause, told_end}
 use Rattle.signal_board.specs.Steps.{IsReady, MayHave, known}
 use Rattle.signal_board.specs.Views.{RequestView}
-use Rattle.waiter.specs.Kept.{LastAt, WalkKept, WaitingKept}
-use Rattle.waiter.specs.Polls.{BlockedUnder, FirstOpen, IsBlockedPoll, IsPoisonedPoll, IsReadyPoll, Polls, SameBut}
-use Rattle.waiter.specs.Says.{Blocked, Last, Poisoned, Ready, WaitingSays, waits_for}
-use Rattle.waiter.specs.Steps.{FoundAt, Judged}
-use Rattle.waiter.specs.Walks.{AllEnded, Learns, MetAt, looked_at, met_in_front}
-use Rattle.waiter.specs.declared.search.Found.{Found}
-use Rattle.waiter.specs.declared.waiting.Polled.{Polled}
-use Rattle.waiter.specs.declared.waiting.Polled.TheVariants as polled
-use Rattle.waiter.proofs.Keeping.{heard, last_stays}
-use Rattle.waiter.proofs.Walking.{ended_grow, met_in_whole, met_is, met_there, stands}
-
--- A waiting request that learnt of ends.
-pub learnt : (who : ℕ) (request : Declaration) (shot : Snapshot) (turns : ℕ) (last : Last) (order : List ℕ) (ask at : ℕ) (s t : LaneSays) →
-    Learns s t → WaitingKept who request shot turns last order ask at s → WaitingKept who request shot turns last order ask at t
-learnt who request shot turns last order ask at s t l g =
-    subst (WaitingKept who request shot turns last order ask at) (sym l.0)
-    (g.0, g.1, g.2, last_stays s.r s.r.shown t.r.ended s.r.poisoned s.r.cause turns last l.1 (λ p h. h) g.3, walk)
-  where
-    walk : WalkKept request shot order ask at last t.r.ended
-    walk = record {
-      order_is = g.4.order_is;
-      inside = g.4.inside;
-      passed = ended_grow s.r.ended t.r.ended (met_in_front shot (in_waiting_order request.latches) ask at) l.1 g.4.passed;
-      last_at = g.4.last_at;
-    }
+use Rattle.waiter.specs.Polls.{BlockedUnder, IsBlockedPoll, IsPoisonedPoll, IsReadyPoll, SameBut}
+use Rattle.waiter.specs.Says.{Blocked, CoreId, Last, Poisoned, Ready, WaitingSays}
+use Rattle.waiter.specs.Steps.{Judged}
+use Rattle.waiter.proofs.Keeping.{heard, learnt, waiting_knows}
 
 -- Whether the request that blocks was found poisoned.
 pub judged_sound : (policy : Policy) (s t : LaneSays) (p : ℕ) → t ≡ record s { r = told_cause false p s.r } →
@@ -74,169 +61,145 @@ pub may_have : (s t : LaneSays) (p lane : ℕ) → t ≡ record s { r = told_cau
 may_have s t p lane e policy is =
     subst (λ (w : LaneSays). MayHave w.r (From p)) (sym e) (policy, (lane, is), (0, omega arith, refl))
 
--- A held latch that is met is one that the request waits for, and one place has one.
-pub met_waits : (s : Snapshot) (ls : List Latch) (k at : ℕ) (x : HeldLatch) → MetAt s (in_waiting_order ls) k at x → Contains (met_in s ls) x
-met_waits s ls k at x m =
-    met_in_whole s (in_waiting_order ls) k m.0 x m.1
-    (subst (λ (zs : List HeldLatch). Contains zs x) (sym (met_is s m.0)) (met_there m.0 (looked_at s m.0) at x m.2 m.3))
+-- The held latch that is found is one that the request waits for.
+pub first_waits : (r t : RequestView) (x : HeldLatch) → FirstOpen r t x → Contains (waits_for r) x
+first_waits r t x f = passed_ahead t.ended (waits_for r) (x ∷ f.rest) x f.passed (0, omega arith, refl)
 
-some_same : {X : Type 0} (x y : X) → Some x ≡ Some y → x ≡ y
-some_same x y e = cc
-
-pub met_same : (s : Snapshot) (ls : List Latch) (k at : ℕ) (x y : HeldLatch) → MetAt s ls k at x → MetAt s ls k at y → x ≡ y
-met_same s ls k at x y m n =
-    let same : m.0 ≡ n.0 = some_same m.0 n.0 (sym m.1 ∙ n.1) in
-    some_same x y (sym m.2 ∙ (ap (λ l. slice_get (looked_at s l) at) same ∙ n.2))
-
--- The held latch at the place that was found.
-abbrev pub FoundFor : RequestView → Found → HeldLatch → Type 0
-FoundFor r f x =
-    AllEnded r.ended (met_in_front r.shot (in_waiting_order r.request.latches) f.ask f.at)
-    × MetAt r.shot (in_waiting_order r.request.latches) f.ask f.at x
-    × (has_ended r.shown x.by ≡ false)
-
-pub found_for : (r : RequestView) (f : Found) (x y : HeldLatch) → FoundAt r f → MetAt r.shot (in_waiting_order r.request.latches) f.ask f.at x →
-    y ≡ x → FoundFor r f y
-found_for r f x y g m e =
-    let same : x ≡ g.1.0 = met_same r.shot (in_waiting_order r.request.latches) f.ask f.at x g.1.0 m g.1.1 in
-    subst (FoundFor r f) (sym (e ∙ same)) (g.0, g.1.1, g.1.2)
-
--- What the request keeps after it was blocked, or found its blocker poisoned.
-pub walk_at : (request : Declaration) (shot : Snapshot) (turns : ℕ) (last next : Last) (order : List ℕ) (ask at : ℕ) (s t : LaneSays) (f : Found)
-    (x : HeldLatch) →
-    (request ≡ s.r.request) → (shot ≡ s.r.shot) → ((p : ℕ) → Contains s.r.ended p → Contains t.r.ended p) → WalkKept request shot order ask at last s.r.ended →
-    FoundFor s.r f x → (MetAt shot (in_waiting_order request.latches) f.ask f.at x → LastAt shot (in_waiting_order request.latches) f.ask f.at next) →
-    WalkKept request shot order f.ask f.at next t.r.ended
-walk_at request shot turns last next order ask at s t f x er es keeps w g lasts = record {
-  order_is = w.order_is;
-  inside = w.inside;
-  passed = ended_grow s.r.ended t.r.ended (met_in_front shot (in_waiting_order request.latches) f.ask f.at) keeps
-      (subst (λ (y : Declaration × Snapshot). AllEnded s.r.ended (met_in_front y.1 (in_waiting_order y.0.latches) f.ask f.at)) (λ i. (sym er i, sym es i)) g.0);
-  last_at = lasts (subst (λ (y : Declaration × Snapshot). MetAt y.1 (in_waiting_order y.0.latches) f.ask f.at x) (λ i. (sym er i, sym es i)) g.1);
-}
-
-pub blocked_kept : (who : ℕ) (request : Declaration) (shot : Snapshot) (turns more : ℕ) (last : Last) (order : List ℕ) (ask at : ℕ) (s t : LaneSays) (f : Found)
-    (x : HeldLatch) (policy : Policy) (p : ℕ) → WaitingKept who request shot turns last order ask at s → FoundFor s.r f x →
-    Judged policy s t p false → 1 ≤ more →
-    WaitingKept who request shot more (Blocked x) order f.ask f.at t
-blocked_kept who request shot turns more last order ask at s t f x policy p g found j le =
-    subst (WaitingKept who request shot more (Blocked x) order f.ask f.at) (sym j.same) (
-      g.0,
-      g.1,
-      g.2,
-      (met_waits s.r.shot s.r.request.latches f.ask f.at x found.1, le),
-      walk_at request shot turns last (Blocked x) order ask at s t f x g.1 g.2 j.ended g.4 found (λ m. m),
-    )
-
-pub poisoned_kept : (who : ℕ) (request : Declaration) (shot : Snapshot) (turns : ℕ) (last : Last) (order : List ℕ) (ask at : ℕ) (s t : LaneSays) (f : Found)
-    (x : HeldLatch) (policy : Policy) (p : ℕ) → WaitingKept who request shot turns last order ask at s → FoundFor s.r f x → Judged policy s t p true →
-    policy ≡ s.r.request.policy → p ≡ x.by → WaitingKept who request shot turns (Poisoned x) order f.ask f.at t
-poisoned_kept who request shot turns last order ask at s t f x policy p g found j is whose =
-    subst (WaitingKept who request shot turns (Poisoned x) order f.ask f.at) (sym j.same) (
-      g.0,
-      g.1,
-      g.2,
-      (met_waits s.r.shot s.r.request.latches f.ask f.at x found.1, sym is ∙ j.judges.0, subst (Contains t.r.poisoned) whose j.judges.1),
-      walk_at request shot turns last (Poisoned x) order ask at s t f x g.1 g.2 j.ended g.4 found (λ m. m),
-    )
-
--- What it answers.
-first_open : (s t : LaneSays) (f : Found) (x : HeldLatch) → ((p : ℕ) → Contains s.r.ended p → Contains t.r.ended p) → FoundFor s.r f x → FirstOpen s.r t.r x
-first_open s t f x keeps g =
-    let w = stands s.r.shot (in_waiting_order s.r.request.latches) f.ask f.at x g.1 in
-    record {
-      front = met_in_front s.r.shot (in_waiting_order s.r.request.latches) f.ask f.at;
-      rest = w.0;
-      stands = w.1;
-      ended = ended_grow s.r.ended t.r.ended (met_in_front s.r.shot (in_waiting_order s.r.request.latches) f.ask f.at) keeps g.0;
-      not_shown = g.2;
-    }
-
-pub blocked_poll : (s t : LaneSays) (turns more : ℕ) (last : Last) (f : Found) (x : HeldLatch) (policy : Policy) (p place : ℕ) → FoundFor s.r f x →
-    Judged policy s t p false → policy ≡ s.r.request.policy → p ≡ x.by → place ≡ x.place → more ≡ min (turns + 1) (2 ^ 64 - 1) →
-    IsBlockedPoll (record { table = s.table; r = s.r; turns = turns; last = last })
-    (record { table = t.table; r = t.r; turns = more; last = Blocked x }) p place
-blocked_poll s t turns more last f x policy p place found j is whose which counts = record {
-  latch = x;
-  last = refl;
-  whose = whose;
-  which = which;
-  first = first_open s t f x j.ended found;
-  turns = counts;
-  found = subst (λ (y : Policy). BlockedUnder y s.r t.r p) is j.judges;
-}
-
-pub poisoned_poll : (s t : LaneSays) (turns : ℕ) (last : Last) (f : Found) (x : HeldLatch) (policy : Policy) (p place : ℕ) → FoundFor s.r f x →
-    Judged policy s t p true → policy ≡ s.r.request.policy → p ≡ x.by → place ≡ x.place →
-    IsPoisonedPoll (record { table = s.table; r = s.r; turns = turns; last = last })
-    (record { table = t.table; r = t.r; turns = turns; last = Poisoned x }) p place
-poisoned_poll s t turns last f x policy p place found j is whose which = record {
-  latch = x;
-  last = refl;
-  whose = whose;
-  which = which;
-  first = first_open s t f x j.ended found;
-  policy = sym is ∙ j.judges.0;
-  found = j.judges.1;
-  same_cause = j.judges.2;
-  turns = refl;
+-- Where the request stands after it has gone on.
+pub walk_found : (s t : LaneSays) (shots new : Shots) (order : List ℕ) (place next : Place) (last found : Last) → Learns s t →
+    WalkKept s.r shots order place last →
+    Stands (content_of new) next t.r (stood_at found) → WalkKept t.r new order next found
+walk_found s t shots new order place next last found l w stands = record {
+  order_is = subst (λ (x : LaneSays). IsOrder order x.r.request.latches) (sym l.0) w.order_is;
+  stands = stands;
 }
 
 -- Each prerequisite is known ended.
-pub ready : (r : RequestView) → AllEnded r.ended (waits_for r) → IsReady r
-ready r all = λ p lane w. subst (Contains r.ended) w.2 (all w.0 w.1)
+pub ready : (r t : RequestView) → r.request ≡ t.request → r.shot ≡ t.shot → AllEnded t.ended (waits_for r) → IsReady t
+ready r t er es all = λ p lane w. subst (Contains t.ended) w.2 (all w.0 (subst (λ (y : List HeldLatch). Contains y w.0)
+    (λ i. waits_for (record r { request = sym er i; shot = sym es i })) w.1))
 
-pub ready_kept : (who : ℕ) (request : Declaration) (shot : Snapshot) (turns : ℕ) (last : Last) (order : List ℕ) (ask at : ℕ) (s : LaneSays) →
-    AllEnded s.r.ended (waits_for s.r) → WaitingKept who request shot turns last order ask at s → WaitingKept who request shot turns Ready order ask at s
-ready_kept who request shot turns last order ask at s all g =
-    (g.0, g.1, g.2, ready s.r all, record { order_is = g.4.order_is; inside = g.4.inside; passed = g.4.passed; last_at = tt })
+-- A poll: from the old seat to the one that has learnt of ends, and to the one that was told of poison.
+abbrev pub says : CoreId → RequestView → ℕ → Last → WaitingSays
+says core r turns last = record { core = core; r = r; turns = turns; last = last }
 
--- A poll is what it found, and then what it met.
-pub poll_after : (v w z : WaitingSays) (a : Polled) → w ≡ record v { r = record v.r { ended = w.r.ended } } → Polls w z a → Polls v z a
-poll_after v w z a e p = go a (subst (λ (y : WaitingSays). Polls y z a) e p)
+-- what the first open one is, once more is known
+first_after : (s m : RequestView) (t : RequestView) (x : HeldLatch) → ((p : ℕ) → Contains m.ended p → Contains t.ended p) → FirstOpen s m x → FirstOpen s t x
+first_after s m t x keeps f = record {
+  rest = f.rest;
+  passed = passed_grow m.ended t.ended (waits_for s) (x ∷ f.rest) keeps f.passed;
+  not_shown = f.not_shown;
+}
+
+-- Ends that were learnt before don't matter to what was found of poison.
+under_learnt : (policy : Policy) (s m t : LaneSays) (by : ℕ) → Learns s m → BlockedUnder policy m.r t.r by → BlockedUnder policy s.r t.r by
+under_learnt policy s m t by l u = go policy (subst (λ (w : LaneSays). BlockedUnder policy w.r t.r by) l.0 u)
   where
-    go : (a : Polled) → Polls (record v { r = record v.r { ended = w.r.ended } }) z a → Polls v z a
-    go polled.Ready b = record { last = b.last; ready = b.ready; same_cause = b.same_cause; same_poisoned = b.same_poisoned; turns = b.turns }
-    go (polled.Blocked by place) b = record {
-      latch = b.latch;
-      last = b.last;
-      whose = b.whose;
-      which = b.which;
-      first = record { front = b.first.front; rest = b.first.rest; stands = b.first.stands; ended = b.first.ended; not_shown = b.first.not_shown };
-      turns = b.turns;
-      found = under v.r.request.policy by b.found;
-    }
-      where
-        under : (policy : Policy) (by : ℕ) → BlockedUnder policy (record v.r { ended = w.r.ended }) z.r by → BlockedUnder policy v.r z.r by
-        under Error by u = u
-        under Wait by u = u
-    go (polled.Poisoned by place) b = record {
-      latch = b.latch;
-      last = b.last;
-      whose = b.whose;
-      which = b.which;
-      first = record { front = b.first.front; rest = b.first.rest; stands = b.first.stands; ended = b.first.ended; not_shown = b.first.not_shown };
-      policy = b.policy;
-      found = b.found;
-      same_cause = b.same_cause;
-      turns = b.turns;
-    }
+    go : (policy : Policy) → BlockedUnder policy (record s.r { ended = m.r.ended }) t.r by → BlockedUnder policy s.r t.r by
+    go Error v = v
+    go Wait v = v
 
-pub ready_poll : (v w u : WaitingSays) → w ≡ record v { r = record v.r { ended = w.r.ended } } → AllEnded w.r.ended (waits_for w.r) →
-    u ≡ record w { last = Ready } → IsReadyPoll v u
-ready_poll v w u e all is = subst (IsReadyPoll v) (sym is) (record {
+module _ (core new_core : CoreId) (s m t : LaneSays) (turns more : ℕ) (last : Last) (policy : Policy) (p place : ℕ) (x : HeldLatch)
+    (learns : Learns s m) (is : policy ≡ s.r.request.policy) (found : FirstOpen s.r m.r x) (whose : p ≡ x.by) (which : place ≡ x.place) where
+  pub blocked_poll : Judged policy m t p false → more ≡ min (turns + 1) (2 ^ 64 - 1) →
+      IsBlockedPoll (says core s.r turns last) (says new_core t.r more (Blocked x)) p place
+  blocked_poll j counts = record {
+    latch = x;
+    last = refl;
+    whose = whose;
+    which = which;
+    first = first_after s.r m.r t.r x j.ended found;
+    turns = counts;
+    found = subst (λ (y : Policy). BlockedUnder y s.r t.r p) is (under_learnt policy s m t p learns j.judges);
+  }
+
+  pub poisoned_poll : Judged policy m t p true → IsPoisonedPoll (says core s.r turns last) (says new_core t.r turns (Poisoned x)) p place
+  poisoned_poll j = record {
+    latch = x;
+    last = refl;
+    whose = whose;
+    which = which;
+    first = first_after s.r m.r t.r x j.ended found;
+    policy = sym is ∙ j.judges.0;
+    found = j.judges.1;
+    same_cause = j.judges.2 ∙ ap (λ (w : LaneSays). w.r.cause) learns.0;
+    turns = refl;
+  }
+
+-- What a poll leaves as it was.
+pub same_judged : (core new_core : CoreId) (s m t : LaneSays) (turns more : ℕ) (last next : Last) (policy : Policy) (p : ℕ) (bad : Bool) → new_core ≡ core →
+    Learns s m → Judged policy m t p bad → SameBut (says core s.r turns last) (says new_core t.r more next)
+same_judged core new_core s m t turns more last next policy p bad cores l j = record {
+  core = cores;
+  request = ap (λ (w : LaneSays). w.r) j.same ∙ ap (λ (w : LaneSays). record w.r { ended = t.r.ended; poisoned = t.r.poisoned; cause = t.r.cause }) l.0;
+  ended = λ q has. j.ended q (l.1 q has);
+  poisoned = λ q has. j.poisoned q (subst (λ (w : LaneSays). Contains w.r.poisoned q) (sym l.0) has);
+}
+
+pub same_ready : (core new_core : CoreId) (s m : LaneSays) (turns : ℕ) (last : Last) → new_core ≡ core → Learns s m →
+    SameBut (says core s.r turns last) (says new_core m.r turns Ready)
+same_ready core new_core s m turns last cores l = record {
+  core = cores;
+  request = ap (λ (w : LaneSays). w.r) l.0 ∙ ap (λ (w : LaneSays). record s.r { ended = m.r.ended; poisoned = w.r.poisoned; cause = w.r.cause }) (sym l.0);
+  ended = l.1;
+  poisoned = λ q has. subst (λ (w : LaneSays). Contains w.r.poisoned q) (sym l.0) has;
+}
+
+pub ready_poll : (core new_core : CoreId) (s m : LaneSays) (turns : ℕ) (last : Last) → Learns s m → AllEnded m.r.ended (waits_for s.r) →
+    IsReadyPoll (says core s.r turns last) (says new_core m.r turns Ready)
+ready_poll core new_core s m turns last l all = record {
   last = refl;
-  ready = ready w.r all;
-  same_cause = ap (λ y. y.r.cause) e;
-  same_poisoned = ap (λ y. y.r.poisoned) e;
-  turns = ap (λ y. y.turns) e;
-})
+  ready = ready s.r m.r (ap (λ (w : LaneSays). w.r.request) (sym l.0)) (ap (λ (w : LaneSays). w.r.shot) (sym l.0)) all;
+  same_cause = ap (λ (w : LaneSays). w.r.cause) l.0;
+  same_poisoned = ap (λ (w : LaneSays). w.r.poisoned) l.0;
+  turns = refl;
+}
 
-pub ready_same : (v w u : WaitingSays) → w ≡ record v { r = record v.r { ended = w.r.ended } } → ((p : ℕ) → Contains v.r.ended p → Contains w.r.ended p) →
-    u ≡ record w { last = Ready } → SameBut v u
-ready_same v w u e keeps is = subst (SameBut v) (sym is) (record {
-  table = ap (λ y. y.table) e;
-  request = ap (λ y. y.r) e ∙ ap (λ (y : WaitingSays). record v.r { ended = w.r.ended; poisoned = y.r.poisoned; cause = y.r.cause }) (sym e);
-  ended = keeps;
-  poisoned = λ p h. subst (λ (y : WaitingSays). Contains y.r.poisoned p) (sym e) h;
-})
+-- What the request keeps after it was found ready, blocked, or poisoned by its blocker.
+module _ (who : ℕ) (mode : Mode) (request : Declaration) (shots new : Shots) (turns more : ℕ) (last : Last) (order : List ℕ) (place next : Place)
+    (s m t : LaneSays) (kept : WaitingKept who mode request shots turns last order place s) (learns : Learns s m) where
+  kept_then : WaitingKept who mode request shots turns last order place m
+  kept_then = learnt who mode request shots turns last order place s m learns kept
+
+  pub ready_kept : AllEnded m.r.ended (waits_for s.r) → WalkKept m.r new order next Ready → WaitingKept who mode request new turns Ready order next m
+  ready_kept all walk = record {
+    who_is = kept_then.who_is;
+    mode_is = kept_then.mode_is;
+    request_is = kept_then.request_is;
+    given = ready s.r m.r (ap (λ (w : LaneSays). w.r.request) (sym learns.0)) (ap (λ (w : LaneSays). w.r.shot) (sym learns.0)) all;
+    walk = walk;
+  }
+
+  module _ (x : HeldLatch) (found : FirstOpen s.r m.r x) (walk : WalkKept m.r new order next (Blocked x)) (policy : Policy) (p : ℕ) where
+    blocked_then : 1 ≤ more → WaitingKept who mode request new more (Blocked x) order next m
+    blocked_then le = record {
+      who_is = kept_then.who_is;
+      mode_is = kept_then.mode_is;
+      request_is = kept_then.request_is;
+      given = (waits_still s m x learns (first_waits s.r m.r x found), le);
+      walk = walk;
+    }
+
+    pub blocked_kept : Judged policy m t p false → 1 ≤ more → WaitingKept who mode request new more (Blocked x) order next t
+    blocked_kept j le = waiting_knows who mode request new more (Blocked x) order next m t m.r.shown t.r.ended t.r.poisoned t.r.cause j.ended j.poisoned j.same
+        (blocked_then le)
+
+    pub poisoned_kept : Judged policy m t p true → policy ≡ s.r.request.policy → p ≡ x.by → WaitingKept who mode request new turns (Poisoned x) order next t
+    poisoned_kept j is whose =
+        let blocked = waiting_knows who mode request new 1 (Blocked x) order next m t m.r.shown t.r.ended t.r.poisoned t.r.cause j.ended j.poisoned j.same
+        (record {
+          who_is = kept_then.who_is;
+          mode_is = kept_then.mode_is;
+          request_is = kept_then.request_is;
+          given = (waits_still s m x learns (first_waits s.r m.r x found), omega arith);
+          walk = walk;
+        }) in
+        let same_policy : t.r.request.policy ≡ s.r.request.policy =
+        ap (λ (w : LaneSays). w.r.request.policy) j.same ∙ ap (λ (w : LaneSays). w.r.request.policy) learns.0 in
+        record {
+          who_is = blocked.who_is;
+          mode_is = blocked.mode_is;
+          request_is = blocked.request_is;
+          given = (blocked.given.0, same_policy ∙ (sym is ∙ j.judges.0), subst (Contains t.r.poisoned) whose j.judges.1);
+          walk = record { order_is = blocked.walk.order_is; stands = blocked.walk.stands };
+        }

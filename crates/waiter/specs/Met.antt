@@ -26,10 +26,3 @@ last_of stage.Poisoned x = Poisoned x
 abbrev pub met_of : Bool → HeldLatch → Option HeldLatch
 met_of true x = Some x
 met_of false x = None
-
--- the last poll met a held latch
-abbrev pub IsMetStage : Stage → Type 0
-IsMetStage stage.Unpolled = ⊥
-IsMetStage stage.Ready = ⊥
-IsMetStage stage.Blocked = Unit {0}
-IsMetStage stage.Poisoned = Unit {0}

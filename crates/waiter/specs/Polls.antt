@@ -1,16 +1,17 @@
 -- What a poll and a check answer, and when.
-use Rattle.std.specs.Prelude.{◌≡◌, ◌⊎◌, ℕ, ◌+◌, ◌-◌, ◌^◌, min, not, List, [], ◌∷◌, ◌++◌, position, Option, Some, None, false}
+use Rattle.std.specs.Prelude.{◌≡◌, ◌⊎◌, ℕ, ◌+◌, ◌-◌, ◌^◌, min, not, List, [], ◌∷◌, position, Option, Some, None}
 use Rattle.std.specs.List.{Contains}
 use Rattle.latch_model.specs.Checks.{is_declared}
-use Rattle.latch_model.specs.Histories.{HeldLatch, has_ended, met_in}
+use Rattle.latch_model.specs.Histories.{HeldLatch, met_in}
 use Rattle.latch_model.specs.declared.history.Cause.TheVariants.{From}
 use Rattle.latch_model.specs.declared.latch.Latch.{Latch}
 use Rattle.latch_model.specs.declared.latch.Policy.{Policy}
 use Rattle.latch_model.specs.declared.latch.Policy.TheVariants.{Wait, Error}
+use Rattle.shot_walks.specs.Waits.{FirstOpen}
 use Rattle.signal_board.specs.Says.{first_cause}
 use Rattle.signal_board.specs.Steps.{IsReady}
 use Rattle.signal_board.specs.Views.{RequestView}
-use Rattle.waiter.specs.Says.{Blocked, OptimistSays, Poisoned, Ready, WaitingSays, waits_for}
+use Rattle.waiter.specs.Says.{Blocked, OptimistSays, Poisoned, Ready, WaitingSays}
 use Rattle.waiter.specs.declared.optimist.Checked.{Checked}
 use Rattle.waiter.specs.declared.optimist.Checked.TheVariants as checked
 use Rattle.waiter.specs.declared.waiting.Polled.{Polled}
@@ -18,19 +19,10 @@ use Rattle.waiter.specs.declared.waiting.Polled.TheVariants as polled
 
 -- A poll changes nothing but what is known of ends and of poison, the request's own cause, its turns and its last poll; and what was known stays known.
 pub record SameBut (old new : WaitingSays) : Type 0 where
-  pub table : new.table ≡ old.table
+  pub core : new.core ≡ old.core
   pub request : new.r ≡ record old.r { ended = new.r.ended; poisoned = new.r.poisoned; cause = new.r.cause }
   pub ended : (p : ℕ) → Contains old.r.ended p → Contains new.r.ended p
   pub poisoned : (p : ℕ) → Contains old.r.poisoned p → Contains new.r.poisoned p
-
--- The first held latch that a request waits for and whose request hasn't ended: each in front of it is of a request that is then known ended, and the end of
--- its own isn't in what the request has been shown.
-pub record FirstOpen (old new : RequestView) (x : HeldLatch) : Type 0 where
-  pub front : List HeldLatch
-  pub rest : List HeldLatch
-  pub stands : waits_for old ≡ front ++ x ∷ rest
-  pub ended : (y : HeldLatch) → Contains front y → Contains new.ended y.by
-  pub not_shown : has_ended old.shown x.by ≡ false
 
 -- The request by which it is blocked wasn't found poisoned: then no cause and no poison is new, and if it was known to be poisoned, it is then known ended,
 -- since an open one that is poisoned stays so.

@@ -9,9 +9,19 @@ use Rattle.latch_model.specs.declared.history.Fault.TheVariants as fault
 use Rattle.latch_model.specs.declared.history.Grant.{Grant}
 use Rattle.latch_model.specs.declared.latch.Latch.{Latch}
 use Rattle.latch_model.specs.declared.latch.Policy.TheVariants.{Error}
+use Rattle.shot_walks.specs.Waits.{waits_for}
 use Rattle.signal_board.specs.Steps.{IsReady}
 use Rattle.signal_board.specs.Views.{RequestView}
 use Rattle.waiter.specs.declared.mark.Mark.{Mark}
+use Rattle.waiter.specs.declared.shared.Core.{Core}
+
+-- To which core something belongs: its table of signals and its pool of rows.
+pub record CoreId : Type 0 where
+  pub signals : TableId
+  pub rows : TableId
+
+abbrev pub id_of : Core → CoreId
+id_of core = record { signals = core.board.table; rows = core.rows }
 
 -- What the last poll of a waiting request answered, and the held latch that it met.
 pub data Last : Type 0 where
@@ -20,36 +30,37 @@ pub data Last : Type 0 where
   Blocked : HeldLatch → Last
   Poisoned : HeldLatch → Last
 
--- A request that waits: its board, what it knows, how many of its polls were Blocked, and its last poll.
+-- A request that has begun: its core, and what it knows.
+pub record OpenedSays : Type 0 where
+  pub core : CoreId
+  pub r : RequestView
+
+-- A request that waits: its core, what it knows, how many of its polls were Blocked, and its last poll.
 pub record WaitingSays : Type 0 where
-  pub table : TableId
+  pub core : CoreId
   pub r : RequestView
   pub turns : ℕ
   pub last : Last
 
 -- An optimistic request: the held latch that the last check met, if one met, and the latches of the check that passed, if it stands.
 pub record OptimistSays : Type 0 where
-  pub table : TableId
+  pub core : CoreId
   pub r : RequestView
   pub met : Option HeldLatch
   pub passed : Option (List Latch)
 
 -- A granted request, and how it was granted.
 pub record GrantedSays : Type 0 where
-  pub table : TableId
+  pub core : CoreId
   pub r : RequestView
   pub grant : Grant
 
 -- A request that is to end, and with what.
 pub record EndingSays : Type 0 where
-  pub table : TableId
+  pub core : CoreId
   pub r : RequestView
   pub grant : Grant
   pub fault : Fault
-
--- The held latches that a request waits for, in the waiting order: those that its own latches meet in its snapshot.
-abbrev pub waits_for : RequestView → List HeldLatch
-waits_for r = met_in r.shot r.request.latches
 
 -- The mark of a held latch: whose it is, its place in that request, its span and its normal stamp.
 abbrev pub Shows : Mark → HeldLatch → Type 0

@@ -7,10 +7,14 @@ ghost use Rattle.latch_model.specs.declared.history.Fault.TheVariants.{None as n
 ghost use Rattle.signal_board.specs.Rule.{IsPrefix};
 ghost use Rattle.signal_board.specs.Says.{first_cause, shown_to};
 ghost use Rattle.signal_board.specs.Steps.{FaultGiven, GrantGiven};
+ghost use Rattle.waiter.specs.Kept.{IsBack};
+ghost use Rattle.waiter.specs.Says.{id_of};
 
-use crate::opened::Core;
+use crate::shared::Core;
 use latch_model::history::{Cause, Fault, Grant};
+use latch_model::latch::Mode;
 use latch_model::request::Request;
+use latch_shots::Returned;
 use signal_board::board::{DeskSeat, LaneSeat};
 use std::marker::Model;
 
@@ -18,8 +22,11 @@ use std::marker::Model;
 pub struct Granted {
     pub(crate) seat: LaneSeat,
     pub(crate) who: u32,
+    pub(crate) mode: Mode,
     pub(crate) request: Request,
     pub(crate) grant: Grant,
+    // what is left of its shots, which goes back to the desk at its end
+    pub(crate) returned: Returned,
 }
 
 impl Model for Granted {
@@ -28,9 +35,9 @@ impl Model for Granted {
 
     ghost Value = { GrantedSays };
 
-    ghost view = { λ g. record { table = g.seat.table; r = g.seat.r; grant = g.grant } };
+    ghost view = { λ g. record { core = record { signals = g.seat.table; rows = g.returned.seat.table }; r = g.seat.r; grant = g.grant } };
 
-    ghost invariant = { λ g. GrantedKept g.who g.request g.grant g.seat };
+    ghost invariant = { λ g. GrantedKept g.who g.mode g.request g.grant g.returned g.seat };
 }
 
 impl Granted {
@@ -71,7 +78,7 @@ impl Granted {
 
     /// The cause becomes Called, unless there is one.
     pub fn poison(&mut self, core: &Core)
-        requires table { self.old.table ≡ core.now.board.table }
+        requires core { self.old.core ≡ id_of core.now }
         ensures { self.new ≡ record self.old { r = record self.old.r { cause = first_cause self.old.r.cause Called } } }
     {
         core.board.poison(&mut self.seat, Cause::Called);
@@ -79,7 +86,7 @@ impl Granted {
 
     /// The request has then been shown the whole history, in which each request that it knows ended has its end.
     pub fn tell(&mut self, core: &Core, desk: &mut DeskSeat)
-        requires tables { (desk.old.table ≡ core.now.board.table) × (self.old.table ≡ core.now.board.table) }
+        requires core { (desk.old.table ≡ core.now.board.table) × (self.old.core ≡ id_of core.now) }
         ensures desk { desk.new ≡ desk.old }
         ensures told { self.new ≡ record self.old { r = shown_to desk.old.log self.old.r } }
         ensures goes_on { IsPrefix self.old.r.shown desk.old.log }
@@ -91,20 +98,24 @@ impl Granted {
 
     /// The request, which is to end.
     pub fn finish(self) -> Ending
-        ensures { result ≡ record { table = self.table; r = self.r; grant = self.grant; fault = no_fault } }
+        ensures { result ≡ record { core = self.core; r = self.r; grant = self.grant; fault = no_fault } }
     {
         let Granted {
             seat,
             who,
+            mode,
             request,
             grant,
+            returned,
         } = self;
         Ending {
             seat,
             who,
+            mode,
             request,
             grant,
             fault: Fault::None,
+            returned,
         }
     }
 }
@@ -113,30 +124,39 @@ impl Granted {
 pub struct Ending {
     pub(crate) seat: LaneSeat,
     pub(crate) who: u32,
+    pub(crate) mode: Mode,
     pub(crate) request: Request,
     pub(crate) grant: Grant,
     pub(crate) fault: Fault,
+    pub(crate) returned: Returned,
 }
 
 impl Model for Ending {
-    ghost use Rattle.std.specs.Prelude.{◌≡◌};
-    ghost use Rattle.signal_board.specs.Steps.{FaultGiven, GrantGiven};
+    ghost use Rattle.waiter.specs.Kept.{EndingKept};
     ghost use Rattle.waiter.specs.Says.{EndingSays};
 
     ghost Value = { EndingSays };
 
-    ghost view = { λ e. record { table = e.seat.table; r = e.seat.r; grant = e.grant; fault = e.fault } };
+    ghost view = { λ e. record {
+      core = record { signals = e.seat.table; rows = e.returned.seat.table };
+      r = e.seat.r;
+      grant = e.grant;
+      fault = e.fault;
+    } };
 
-    ghost invariant = { λ e. (e.who ≡ e.seat.r.who) × (e.request ≡ e.seat.r.request) × GrantGiven e.seat.r e.grant
-        × FaultGiven e.seat.r e.grant e.fault };
+    ghost invariant = { λ e. EndingKept e.who e.mode e.request e.grant e.fault e.returned e.seat };
 }
 
 /// What the end of a request is made of.
 pub struct EndParts {
     pub seat: LaneSeat,
     pub who: u32,
+    pub mode: Mode,
+    pub request: Request,
     pub grant: Grant,
     pub fault: Fault,
+    /// What is left of its shots.
+    pub returned: Returned,
 }
 
 impl Ending {
@@ -163,8 +183,11 @@ impl Ending {
 
     /// Its parts, with which its seat may end.
     pub fn into_parts(self) -> EndParts
-        ensures seat { result.seat ≡ record { table = self.table; r = self.r } }
+        ensures seat { result.seat ≡ record { table = self.core.signals; r = self.r } }
         ensures who { result.who ≡ self.r.who }
+        ensures mode { result.mode ≡ self.r.mode }
+        ensures request { result.request ≡ self.r.request }
+        ensures returned { IsBack self.core.rows result.returned }
         ensures grant { result.grant ≡ self.grant }
         ensures fault { result.fault ≡ self.fault }
         ensures grant_given { GrantGiven self.r self.grant }
@@ -173,15 +196,20 @@ impl Ending {
         let Ending {
             seat,
             who,
-            request: _,
+            mode,
+            request,
             grant,
             fault,
+            returned,
         } = self;
         EndParts {
             seat,
             who,
+            mode,
+            request,
             grant,
             fault,
+            returned,
         }
     }
 }

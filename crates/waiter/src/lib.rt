@@ -2,24 +2,16 @@
 //! ends. Each of its stages is a value that must be spent.
 #![tactic(auto)]
 
-mod first;
 mod granted;
-mod held;
-mod last;
 mod mark;
-mod numbers;
 mod opened;
 mod optimist;
-mod order;
-mod search;
+mod shared;
 mod waiting;
 
 pub use granted::{EndParts, Ending, Granted};
-pub use held::{Captured, HeldLatch};
 pub use mark::Mark;
-pub use opened::{Core, Opened};
+pub use opened::Opened;
 pub use optimist::{Checked, Optimist};
+pub use shared::Core;
 pub use waiting::{Polled, Waiting};
-
-#[cfg(test)]
-mod tests;

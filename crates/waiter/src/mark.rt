@@ -1,10 +1,14 @@
 // The latch that a request met last, kept so that it can be shown.
 ghost use Rattle.std.specs.Prelude.{◌≡◌};
+ghost use Rattle.latch_model.specs.Histories.{HeldLatch};
+ghost use Rattle.latch_shots.specs.Met.{IsMet};
+ghost use Rattle.latch_shots.specs.Shots.{table_of, view_of};
 ghost use Rattle.waiter.specs.Met.{held_of};
 
-use crate::held::HeldLatch;
 use hlc_stamp::Stamp;
 use latch_model::latch::Access;
+use latch_shots::{MetLatch, Shots};
+use row_pool::Rows;
 use span_key::SpanRoom;
 
 /// A held latch that a request met: latch number `place`, from 0, of request `by`, with its span and its normal stamp.
@@ -39,18 +43,16 @@ pub(crate) fn unmet(span: SpanRoom) -> Met {
 }
 
 /// Keeps this held latch in the place of the last one. It takes no memory.
-pub(crate) fn keep(met: &mut Met, x: &HeldLatch)
-    ensures { held_of met.new ≡ x.now }
+pub(crate) fn keep(met: &mut Met, x: &MetLatch, rows: &Rows, shots: &mut Shots)
+    requires table { table_of shots.old ≡ rows.now }
+    requires met { (held : HeldLatch) × IsMet (view_of shots.old) x.now held }
+    ensures same { shots.new ≡ shots.old }
+    ensures kept { (held : HeldLatch) → IsMet (view_of shots.old) x.now held → held_of met.new ≡ held }
 {
-    let latch = x.latch();
-    let end = match latch.span.end() {
-        Some(end) => end.bytes(),
-        None => &[],
-    };
-    met.mark.by = x.by();
-    met.mark.place = x.place();
-    met.mark.span.refill(latch.span.key().bytes(), end);
-    met.mark.stamp = latch.normal();
-    met.lane = x.lane();
-    met.access = latch.access;
+    x.span(rows, shots, &mut met.mark.span);
+    met.mark.by = x.by;
+    met.mark.place = x.place;
+    met.mark.stamp = x.stamp;
+    met.lane = x.lane;
+    met.access = x.access;
 }

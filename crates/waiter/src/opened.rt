@@ -1,24 +1,19 @@
 // A request that has begun and neither waits nor checks yet.
 ghost use Rattle.std.specs.Prelude.{◌≡◌, ◌≢◌, None};
 ghost use Rattle.latch_model.specs.declared.latch.Mode.TheVariants.{Optimistic};
+ghost use Rattle.latch_shots.specs.Shots.{AreShots, table_of};
 ghost use Rattle.waiter.specs.Says.{OptimistSays, WaitingSays, Unpolled};
 
-use crate::held::Captured;
 use crate::mark::unmet;
 use crate::optimist::Optimist;
-use crate::order::order_of;
-use crate::search::Found;
 use crate::waiting::{Stage, Waiting};
 use latch_model::latch::Mode;
 use latch_model::request::Request;
-use signal_board::board::{Board, LaneSeat};
+use latch_shots::Shots;
+use shot_walks::{Place, order_of};
+use signal_board::board::LaneSeat;
 use span_key::SpanRoom;
 use std::marker::Model;
-
-/// What the requests of one history share.
-pub struct Core {
-    pub board: Board,
-}
 
 /// A request that has begun. It must be spent.
 pub struct Opened {
@@ -26,43 +21,45 @@ pub struct Opened {
     who: u32,
     mode: Mode,
     request: Request,
-    shot: Captured,
+    shots: Shots,
     mark: SpanRoom,
 }
 
 impl Model for Opened {
-    ghost use Rattle.std.specs.Prelude.{◌≡◌};
-    ghost use Rattle.signal_board.specs.Says.{LaneSays};
+    ghost use Rattle.latch_shots.specs.Shots.{table_of};
+    ghost use Rattle.waiter.specs.Kept.{OpenedKept};
+    ghost use Rattle.waiter.specs.Says.{OpenedSays};
 
-    ghost Value = { LaneSays };
+    ghost Value = { OpenedSays };
 
-    ghost view = { λ o. o.seat };
+    ghost view = { λ o. record { core = record { signals = o.seat.table; rows = table_of o.shots }; r = o.seat.r } };
 
-    ghost invariant = { λ o. (o.who ≡ o.seat.r.who) × (o.mode ≡ o.seat.r.mode) × (o.request ≡ o.seat.r.request) × (o.shot ≡ o.seat.r.shot) };
+    ghost invariant = { λ o. OpenedKept o.who o.mode o.request o.shots o.seat };
 }
 
 impl Opened {
-    /// The request of this seat, with its session, its mode, what it declares and its snapshot. `mark` is room for the span of a latch that it meets.
+    /// The request of this seat, with its session, its mode, what it declares, and the shots that stand for its snapshot. `mark` is room for the span of a
+    /// latch that it meets.
     pub fn new(
         seat: LaneSeat,
         who: u32,
         mode: Mode,
         request: Request,
-        shot: Captured,
+        shots: Shots,
         mark: SpanRoom,
     ) -> Opened
         requires who { who ≡ seat.r.who }
         requires mode { mode ≡ seat.r.mode }
         requires request { request ≡ seat.r.request }
-        requires shot { shot ≡ seat.r.shot }
-        ensures { result ≡ seat }
+        requires shots { AreShots shots seat.r.shot }
+        ensures { result ≡ record { core = record { signals = seat.table; rows = table_of shots }; r = seat.r } }
     {
         Opened {
             seat,
             who,
             mode,
             request,
-            shot,
+            shots,
             mark,
         }
     }
@@ -98,48 +95,49 @@ impl Opened {
     /// The request, which is to wait for its latches.
     pub fn waiting(self) -> Waiting
         requires { self.r.mode ≢ Optimistic }
-        ensures { result ≡ record { table = self.table; r = self.r; turns = 0; last = Unpolled } }
+        ensures { result ≡ record { core = self.core; r = self.r; turns = 0; last = Unpolled } }
     {
         let Opened {
             seat,
             who,
-            mode: _,
+            mode,
             request,
-            shot,
+            shots,
             mark,
         } = self;
         let order = order_of(request.latches().list());
         Waiting {
             seat,
             who,
+            mode,
             request,
-            shot,
+            shots,
             met: unmet(mark),
             stage: Stage::Unpolled,
             turns: 0,
             order,
-            place: Found { ask: 0, at: 0 },
+            place: Place::start(),
         }
     }
 
     /// The request, which is to check instead of waiting.
     pub fn optimist(self) -> Optimist
         requires { self.r.mode ≡ Optimistic }
-        ensures { result ≡ record { table = self.table; r = self.r; met = None; passed = None } }
+        ensures { result ≡ record { core = self.core; r = self.r; met = None; passed = None } }
     {
         let Opened {
             seat,
             who,
             mode: _,
             request,
-            shot,
+            shots,
             mark,
         } = self;
         Optimist {
             seat,
             who,
             request,
-            shot,
+            shots,
             met: unmet(mark),
             has_met: false,
             passed: None,

@@ -11,20 +11,19 @@ ghost use Rattle.latch_model.specs.declared.history.Grant.TheVariants.{Checked a
 ghost use Rattle.latch_model.specs.declared.latch.Latch.{Latch};
 ghost use Rattle.signal_board.specs.Says.{first_cause};
 ghost use Rattle.waiter.specs.Polls.{Checks, first_undeclared};
-ghost use Rattle.waiter.specs.Says.{ShowsMet, Unpolled, waits_for};
+ghost use Rattle.waiter.specs.Says.{ShowsMet, Unpolled, id_of};
+ghost use Rattle.shot_walks.specs.Waits.{waits_for};
 
-use crate::first::find_met;
 use crate::granted::{Ending, Granted};
-use crate::held::Captured;
 use crate::mark::{Mark, Met, keep};
-use crate::numbers::numbers_met;
-use crate::opened::Core;
-use crate::order::order_of;
-use crate::search::{Found, met_at};
+use crate::shared::Core;
 use crate::waiting::{Stage, Waiting};
 use latch_model::history::{Cause, Fault, Grant};
-use latch_model::latch::{Latch, Latches, lies_in};
+use latch_model::latch::{Latch, Latches, Mode, lies_in};
 use latch_model::request::Request;
+use latch_shots::Shots;
+use row_pool::Rows;
+use shot_walks::{Place, first_met, numbers_met, order_of};
 use signal_board::board::LaneSeat;
 use span_key::Memory;
 use std::alloc::Global;
@@ -44,22 +43,28 @@ pub struct Optimist {
     pub(crate) seat: LaneSeat,
     pub(crate) who: u32,
     pub(crate) request: Request,
-    pub(crate) shot: Captured,
+    pub(crate) shots: Shots,
     pub(crate) met: Met,
     pub(crate) has_met: bool,
     pub(crate) passed: Option<Latches>,
 }
 
 impl Model for Optimist {
+    ghost use Rattle.latch_shots.specs.Shots.{table_of};
     ghost use Rattle.waiter.specs.Kept.{OptimistKept};
     ghost use Rattle.waiter.specs.Met.{held_of, met_of};
     ghost use Rattle.waiter.specs.Says.{OptimistSays};
 
     ghost Value = { OptimistSays };
 
-    ghost view = { λ o. record { table = o.seat.table; r = o.seat.r; met = met_of o.has_met (held_of o.met); passed = o.passed } };
+    ghost view = { λ o. record {
+      core = record { signals = o.seat.table; rows = table_of o.shots };
+      r = o.seat.r;
+      met = met_of o.has_met (held_of o.met);
+      passed = o.passed;
+    } };
 
-    ghost invariant = { λ o. OptimistKept o.who o.request o.shot o.passed o.seat };
+    ghost invariant = { λ o. OptimistKept o.who o.request o.shots o.passed o.seat };
 }
 
 impl Optimist {
@@ -104,36 +109,37 @@ impl Optimist {
 
     /// Tests latches against the snapshot. One that conflicts counts even where its request has ended since. It takes no memory.
     pub fn check(&mut self, core: &Core, asked: Latches) -> Checked
-        requires table { self.old.table ≡ core.now.board.table }
+        requires core { self.old.core ≡ id_of core.now }
         ensures { Checks self.old self.new asked result }
     {
-        let _ = core;
         match undeclared(self.request.latches().list(), asked.list()) {
             Some(index) => Checked::NotDeclared { index, asked },
-            None => self.meet(asked),
+            None => self.meet(&core.rows, asked),
         }
     }
 
     // Tests latches that lie in declared ones.
-    fn meet(&mut self, asked: Latches) -> Checked
+    fn meet(&mut self, rows: &Rows, asked: Latches) -> Checked
+        requires rows { self.old.core.rows ≡ rows.now }
         requires declared { first_undeclared self.old.r.request.latches asked ≡ None }
         requires lie { All (λ l. Any (LiesInLatch l) self.old.r.request.latches) asked }
         ensures { Checks self.old self.new asked result }
     {
         let order = order_of(asked.list());
-        match find_met(&self.shot, asked.list(), order.as_slice()) {
+        match first_met(rows, &mut self.shots, asked.list(), order.as_slice()) {
             None => {
                 self.passed = Some(asked);
                 Checked::Clear
             }
-            Some(found) => {
-                let x = met_at(&self.shot, asked.list(), order.as_slice(), found);
-                let by = x.by();
-                let place = x.place();
-                keep(&mut self.met, x);
+            Some(x) => {
+                keep(&mut self.met, &x, rows, &mut self.shots);
                 self.has_met = true;
                 self.passed = None;
-                Checked::Met { by, place, asked }
+                Checked::Met {
+                    by: x.by,
+                    place: x.place,
+                    asked,
+                }
             }
         }
     }
@@ -147,19 +153,24 @@ impl Optimist {
 
     /// The numbers, ascending and each once, of the requests whose held latches its own ones meet. Only want of memory is refused.
     pub fn prerequisites(&mut self, alloc: Global, core: &Core) -> Result<Vec<u64>, Memory>
-        requires table { self.old.table ≡ core.now.board.table }
+        requires core { self.old.core ≡ id_of core.now }
         ensures numbers { IfOk result (λ ids. ids.items ≡ ascending (map (λ x. x.by) (waits_for self.old.r))) }
         ensures same { self.new ≡ self.old }
     {
-        let _ = core;
         let latches = self.request.latches().list();
         let order = order_of(latches);
-        numbers_met(alloc, &self.shot, latches, order.as_slice())
+        numbers_met(
+            alloc,
+            &core.rows,
+            &mut self.shots,
+            latches,
+            order.as_slice(),
+        )
     }
 
     /// The cause becomes Called, unless there is one.
     pub fn poison(&mut self, core: &Core)
-        requires table { self.old.table ≡ core.now.board.table }
+        requires core { self.old.core ≡ id_of core.now }
         ensures { self.new ≡ record self.old { r = record self.old.r { cause = first_cause self.old.r.cause Called } } }
     {
         core.board.poison(&mut self.seat, Cause::Called);
@@ -167,16 +178,15 @@ impl Optimist {
 
     /// The request is granted by the check that passed. Its snapshot is let go.
     pub fn confirm(self, core: &Core) -> Granted
-        requires table { self.table ≡ core.now.board.table }
+        requires core { self.core ≡ id_of core.now }
         requires passed { self.passed ≢ None }
-        ensures { (asked : List Latch) × (self.passed ≡ Some asked) × (result ≡ record { table = self.table; r = self.r; grant = was_checked asked }) }
+        ensures { (asked : List Latch) × (self.passed ≡ Some asked) × (result ≡ record { core = self.core; r = self.r; grant = was_checked asked }) }
     {
-        let _ = core;
         let Optimist {
             seat,
             who,
             request,
-            shot: _,
+            shots,
             met: _,
             has_met: _,
             passed,
@@ -185,20 +195,22 @@ impl Optimist {
         Granted {
             seat,
             who,
+            mode: Mode::Optimistic,
             request,
             grant: Grant::Checked(asked),
+            returned: shots.close(&core.rows),
         }
     }
 
     /// The request, which is to wait on the same snapshot. A check that passed is given up.
     pub fn into_waiting(self) -> Waiting
-        ensures { result ≡ record { table = self.table; r = self.r; turns = 0; last = Unpolled } }
+        ensures { result ≡ record { core = self.core; r = self.r; turns = 0; last = Unpolled } }
     {
         let Optimist {
             seat,
             who,
             request,
-            shot,
+            shots,
             met,
             has_met: _,
             passed: _,
@@ -207,27 +219,27 @@ impl Optimist {
         Waiting {
             seat,
             who,
+            mode: Mode::Optimistic,
             request,
-            shot,
+            shots,
             met,
             stage: Stage::Unpolled,
             turns: 0,
             order,
-            place: Found { ask: 0, at: 0 },
+            place: Place::start(),
         }
     }
 
     /// The request gives up. Its snapshot is let go.
     pub fn abandon(self, core: &Core) -> Ending
-        requires table { self.table ≡ core.now.board.table }
-        ensures { result ≡ record { table = self.table; r = self.r; grant = Never; fault = no_fault } }
+        requires core { self.core ≡ id_of core.now }
+        ensures { result ≡ record { core = self.core; r = self.r; grant = Never; fault = no_fault } }
     {
-        let _ = core;
         let Optimist {
             seat,
             who,
             request,
-            shot: _,
+            shots,
             met: _,
             has_met: _,
             passed: _,
@@ -235,9 +247,11 @@ impl Optimist {
         Ending {
             seat,
             who,
+            mode: Mode::Optimistic,
             request,
             grant: Grant::Never,
             fault: Fault::None,
+            returned: shots.close(&core.rows),
         }
     }
 }

@@ -1,5 +1,5 @@
 // A request that waits for the latches that it met in its snapshot.
-ghost use Rattle.std.specs.Prelude.{◌≡◌, ◌≢◌, ℕ, ◌≤◌, ◌↔◌, length, map, true, IfOk, IsTrue, Some, MatchOption};
+ghost use Rattle.std.specs.Prelude.{◌≡◌, ◌≢◌, ℕ, ◌≤◌, ◌↔◌, length, map, true, false, IfOk, IsTrue, Some, MatchOption};
 ghost use Rattle.std.specs.Option.{option_map};
 ghost use Rattle.std.specs.List.{Contains};
 ghost use Rattle.latch_model.specs.Histories.{ascending, has_ended};
@@ -8,24 +8,24 @@ ghost use Rattle.latch_model.specs.declared.history.Grant.TheVariants.{Waited, N
 ghost use Rattle.signal_board.specs.Rule.{IsPrefix, IsPrerequisite};
 ghost use Rattle.signal_board.specs.Says.{absent_cause, first_cause, shown_to};
 ghost use Rattle.signal_board.specs.Steps.{if_caused, warned};
-ghost use Rattle.waiter.specs.Met.{IsMetStage, held_of, last_of};
+ghost use Rattle.waiter.specs.Kept.{IsKept, WalkKept};
+ghost use Rattle.waiter.specs.Met.{held_of, last_of};
 ghost use Rattle.waiter.specs.Polls.{Polls, SameBut};
-ghost use Rattle.waiter.specs.Says.{Blocked, MayAbandon, ShowsLast, Ready as is_ready, waits_for};
-ghost use Rattle.waiter.specs.Steps.{FoundAt, Judged};
-ghost use Rattle.waiter.specs.Walks.{AllEnded, IsWaitedFor};
+ghost use Rattle.waiter.specs.Says.{Blocked, Last, MayAbandon, ShowsLast, Ready as is_ready, id_of};
+ghost use Rattle.waiter.specs.Steps.{Judged};
+ghost use Rattle.latch_shots.specs.Shots.{table_of};
+ghost use Rattle.shot_walks.specs.Waits.{AllEnded, FirstOpen, IsWaitedFor, Learns, waits_for};
 
 use crate::granted::{Ending, Granted};
-use crate::held::{Captured, HeldLatch};
-use crate::last::last_open;
 use crate::mark::{Mark, Met, keep};
-use crate::numbers::numbers_met;
-use crate::opened::Core;
 use crate::optimist::Optimist;
-use crate::order::Places;
-use crate::search::{Found, find_open, met_at};
+use crate::shared::Core;
 use latch_model::history::{Cause, Fault, Grant};
-use latch_model::latch::Policy;
+use latch_model::latch::{Latch, Mode, Policy};
 use latch_model::request::Request;
+use latch_shots::Shots;
+use row_pool::Rows;
+use shot_walks::{Next, Place, Places, last_open, numbers_met};
 use signal_board::board::{Board, DeskSeat, LaneSeat};
 use span_key::Memory;
 use std::alloc::Global;
@@ -53,26 +53,33 @@ pub enum Polled {
 pub struct Waiting {
     pub(crate) seat: LaneSeat,
     pub(crate) who: u32,
+    pub(crate) mode: Mode,
     pub(crate) request: Request,
-    pub(crate) shot: Captured,
+    pub(crate) shots: Shots,
     pub(crate) met: Met,
     pub(crate) stage: Stage,
     pub(crate) turns: u64,
     // The waiting order of its latches, and how far the last poll came.
     pub(crate) order: Places,
-    pub(crate) place: Found,
+    pub(crate) place: Place,
 }
 
 impl Model for Waiting {
+    ghost use Rattle.latch_shots.specs.Shots.{table_of};
     ghost use Rattle.waiter.specs.Kept.{WaitingKept};
     ghost use Rattle.waiter.specs.Met.{held_of, last_of};
     ghost use Rattle.waiter.specs.Says.{WaitingSays};
 
     ghost Value = { WaitingSays };
 
-    ghost view = { λ w. record { table = w.seat.table; r = w.seat.r; turns = w.turns; last = last_of w.stage (held_of w.met) } };
+    ghost view = { λ w. record {
+      core = record { signals = w.seat.table; rows = table_of w.shots };
+      r = w.seat.r;
+      turns = w.turns;
+      last = last_of w.stage (held_of w.met);
+    } };
 
-    ghost invariant = { λ w. WaitingKept w.who w.request w.shot w.turns (last_of w.stage (held_of w.met)) w.order.items w.place.ask w.place.at w.seat };
+    ghost invariant = { λ w. WaitingKept w.who w.mode w.request w.shots w.turns (last_of w.stage (held_of w.met)) w.order.items w.place w.seat };
 }
 
 impl Waiting {
@@ -134,56 +141,28 @@ impl Waiting {
     /// Goes on from where the last poll was blocked, over the held latches that it waits for, in the waiting order, up to the first whose request hasn't ended.
     /// It takes no memory.
     pub fn poll(&mut self, core: &Core) -> Polled
-        requires table { self.old.table ≡ core.now.board.table }
+        requires core { self.old.core ≡ id_of core.now }
         ensures same { SameBut self.old self.new }
         ensures answer { Polls self.old self.new result }
     {
-        match self.find(core) {
-            Some(found) => self.meet(core, found),
-            None => {
-                self.stage = Stage::Ready;
-                Polled::Ready
-            }
-        }
-    }
-
-    // Where the first held latch stands that it waits for and whose request hasn't ended.
-    fn find(&mut self, core: &Core) -> Option<Found>
-        requires table { self.old.table ≡ core.now.board.table }
-        ensures same { self.new ≡ record self.old { r = record self.old.r { ended = self.new.r.ended } } }
-        ensures ended { (p : ℕ) → Contains self.old.r.ended p → Contains self.new.r.ended p }
-        ensures found { MatchOption result (AllEnded self.new.r.ended (waits_for self.new.r)) (FoundAt self.new.r) }
-    {
-        find_open(
+        let found = find_open(
+            &core.rows,
             &core.board,
             &mut self.seat,
-            &self.shot,
+            &mut self.shots,
             self.request.latches().list(),
             self.order.as_slice(),
-            self.place.ask,
-            self.place.at,
-        )
-    }
-
-    // Is blocked by the held latch at this place, or finds it poisoned.
-    fn meet(&mut self, core: &Core, found: Found) -> Polled
-        requires table { self.old.table ≡ core.now.board.table }
-        requires found { FoundAt self.old.r found }
-        ensures same { SameBut self.old self.new }
-        ensures answer { Polls self.old self.new result }
-    {
-        let x = met_at(
-            &self.shot,
-            self.request.latches().list(),
-            self.order.as_slice(),
-            found,
+            &mut self.place,
+            &mut self.met,
         );
-        let by = x.by();
-        let place = x.place();
-        note(&mut self.met, self.stage, self.place, found, x);
-        self.place = found;
+        if !found {
+            self.stage = Stage::Ready;
+            return Polled::Ready;
+        }
+        let by = self.met.mark.by;
+        let place = self.met.mark.place;
         let policy = self.request.policy();
-        if is_poisoned(&core.board, &mut self.seat, policy, x.lane(), by) {
+        if is_poisoned(&core.board, &mut self.seat, policy, self.met.lane, by) {
             self.stage = Stage::Poisoned;
             Polled::Poisoned { by, place }
         } else {
@@ -195,7 +174,7 @@ impl Waiting {
 
     /// One of the requests that it waits for: the last of the waiting order that it finds open, or else the one that blocks it.
     pub fn last_open(&mut self, core: &Core) -> u64
-        requires table { self.old.table ≡ core.now.board.table }
+        requires core { self.old.core ≡ id_of core.now }
         requires blocked { (x : _) × (self.old.last ≡ Blocked x) }
         ensures same { self.new ≡ record self.old { r = record self.old.r { ended = self.new.r.ended } } }
         ensures ended { (p : ℕ) → Contains self.old.r.ended p → Contains self.new.r.ended p }
@@ -203,9 +182,10 @@ impl Waiting {
     {
         let latches = self.request.latches().list();
         match last_open(
+            &core.rows,
             &core.board,
             &mut self.seat,
-            &self.shot,
+            &mut self.shots,
             latches,
             self.order.as_slice(),
         ) {
@@ -216,14 +196,14 @@ impl Waiting {
 
     /// The numbers, ascending and each once, of the requests that it waits for. Only want of memory is refused.
     pub fn prerequisites(&mut self, alloc: Global, core: &Core) -> Result<Vec<u64>, Memory>
-        requires table { self.old.table ≡ core.now.board.table }
+        requires core { self.old.core ≡ id_of core.now }
         ensures numbers { IfOk result (λ ids. ids.items ≡ ascending (map (λ x. x.by) (waits_for self.old.r))) }
         ensures same { self.new ≡ self.old }
     {
-        let _ = core;
         numbers_met(
             alloc,
-            &self.shot,
+            &core.rows,
+            &mut self.shots,
             self.request.latches().list(),
             self.order.as_slice(),
         )
@@ -231,7 +211,7 @@ impl Waiting {
 
     /// The cause becomes Called, unless there is one.
     pub fn poison(&mut self, core: &Core)
-        requires table { self.old.table ≡ core.now.board.table }
+        requires core { self.old.core ≡ id_of core.now }
         ensures { self.new ≡ record self.old { r = record self.old.r { cause = first_cause self.old.r.cause Called } } }
     {
         core.board.poison(&mut self.seat, Cause::Called);
@@ -239,7 +219,7 @@ impl Waiting {
 
     /// The request has then been shown the whole history, in which each request that it knows ended has its end.
     pub fn tell(&mut self, core: &Core, desk: &mut DeskSeat)
-        requires tables { (desk.old.table ≡ core.now.board.table) × (self.old.table ≡ core.now.board.table) }
+        requires core { (desk.old.table ≡ core.now.board.table) × (self.old.core ≡ id_of core.now) }
         ensures desk { desk.new ≡ desk.old }
         ensures told { self.new ≡ record self.old { r = shown_to desk.old.log self.old.r } }
         ensures goes_on { IsPrefix self.old.r.shown desk.old.log }
@@ -251,7 +231,7 @@ impl Waiting {
 
     /// The other request is then known poisoned to this one exactly where it has a cause. It learns in turn what this one knew poisoned.
     pub fn hear_waiting(&mut self, core: &Core, other: &mut Waiting)
-        requires tables { (self.old.table ≡ core.now.board.table) × (other.old.table ≡ core.now.board.table) }
+        requires core { (self.old.core ≡ id_of core.now) × (other.old.core ≡ id_of core.now) }
         ensures hears { self.new ≡ record self.old { r = warned (if_caused other.old.r.id other.old.r.cause) self.old.r } }
         ensures other { other.new ≡ record other.old { r = warned self.old.r.poisoned other.old.r } }
         ensures exactly { Contains self.new.r.poisoned other.old.r.id ↔ (other.old.r.cause ≢ absent_cause) }
@@ -261,7 +241,7 @@ impl Waiting {
 
     /// As `hear_waiting`, of an optimistic request.
     pub fn hear_optimist(&mut self, core: &Core, other: &mut Optimist)
-        requires tables { (self.old.table ≡ core.now.board.table) × (other.old.table ≡ core.now.board.table) }
+        requires core { (self.old.core ≡ id_of core.now) × (other.old.core ≡ id_of core.now) }
         ensures hears { self.new ≡ record self.old { r = warned (if_caused other.old.r.id other.old.r.cause) self.old.r } }
         ensures other { other.new ≡ record other.old { r = warned self.old.r.poisoned other.old.r } }
         ensures exactly { Contains self.new.r.poisoned other.old.r.id ↔ (other.old.r.cause ≢ absent_cause) }
@@ -271,7 +251,7 @@ impl Waiting {
 
     /// As `hear_waiting`, of a granted request.
     pub fn hear_granted(&mut self, core: &Core, other: &mut Granted)
-        requires tables { (self.old.table ≡ core.now.board.table) × (other.old.table ≡ core.now.board.table) }
+        requires core { (self.old.core ≡ id_of core.now) × (other.old.core ≡ id_of core.now) }
         ensures hears { self.new ≡ record self.old { r = warned (if_caused other.old.r.id other.old.r.cause) self.old.r } }
         ensures other { other.new ≡ record other.old { r = warned self.old.r.poisoned other.old.r } }
         ensures exactly { Contains self.new.r.poisoned other.old.r.id ↔ (other.old.r.cause ≢ absent_cause) }
@@ -281,16 +261,17 @@ impl Waiting {
 
     /// The request is granted, by the length of the history, by which each of its prerequisites had ended. Its snapshot is let go.
     pub fn grant(self, core: &Core) -> Granted
-        requires table { self.table ≡ core.now.board.table }
+        requires core { self.core ≡ id_of core.now }
         requires ready { self.last ≡ is_ready }
         ensures { (front : ℕ) × (length self.r.shown ≤ front)
-            × (result ≡ record { table = self.table; r = record self.r { front = Some front }; grant = Waited front }) }
+            × (result ≡ record { core = self.core; r = record self.r { front = Some front }; grant = Waited front }) }
     {
         let Waiting {
             mut seat,
             who,
+            mode,
             request,
-            shot: _,
+            shots,
             met: _,
             stage: _,
             turns: _,
@@ -301,24 +282,26 @@ impl Waiting {
         Granted {
             seat,
             who,
+            mode,
             request,
             grant: Grant::Waited(front),
+            returned: shots.close(&core.rows),
         }
     }
 
     /// The request gives up, for a fault that its last poll allows. Its mark is handed back, and its snapshot let go.
     pub fn abandon(self, core: &Core, fault: Fault) -> (Ending, Option<Mark>)
-        requires table { self.table ≡ core.now.board.table }
+        requires core { self.core ≡ id_of core.now }
         requires fault { MayAbandon self fault }
-        ensures ending { result.0 ≡ record { table = self.table; r = self.r; grant = Never; fault = fault } }
+        ensures ending { result.0 ≡ record { core = self.core; r = self.r; grant = Never; fault = fault } }
         ensures mark { ShowsLast result.1 self.last }
     {
-        let _ = core;
         let Waiting {
             seat,
             who,
+            mode,
             request,
-            shot: _,
+            shots,
             met,
             stage,
             turns: _,
@@ -329,25 +312,44 @@ impl Waiting {
         let ending = Ending {
             seat,
             who,
+            mode,
             request,
             grant: Grant::Never,
             fault,
+            returned: shots.close(&core.rows),
         };
         (ending, shown)
     }
 }
 
-// Keeps a held latch in the place of the last one, unless it is the same.
-fn note(met: &mut Met, stage: Stage, last: Found, found: Found, x: &HeldLatch)
-    requires { IsMetStage stage → last ≡ found → held_of met.old ≡ x.now }
-    ensures { held_of met.new ≡ x.now }
+// Goes on to the first held latch for which a request waits and whose request hasn't ended, and keeps it. The one at which it stands is kept already.
+fn find_open(
+    rows: &Rows,
+    board: &Board,
+    seat: &mut LaneSeat,
+    shots: &mut Shots,
+    latches: &[Latch],
+    order: &[u8],
+    place: &mut Place,
+    met: &mut Met,
+) -> bool
+    requires core { (seat.old.table ≡ board.now.table) × (table_of shots.old ≡ rows.now) }
+    requires latches { latches.now ≡ seat.old.r.request.latches }
+    requires stands { (last : Last) × IsKept last met.old × WalkKept seat.old.r shots.old order.now place.old last }
+    ensures same { table_of shots.new ≡ table_of shots.old }
+    ensures learns { Learns seat.old seat.new }
+    ensures found { result ≡ true → FirstOpen seat.old.r seat.new.r (held_of met.new)
+        × WalkKept seat.new.r shots.new order.now place.new (Blocked (held_of met.new)) }
+    ensures none { result ≡ false → AllEnded seat.new.r.ended (waits_for seat.old.r)
+        × WalkKept seat.new.r shots.new order.now place.new is_ready }
 {
-    let met_before = match stage {
-        Stage::Unpolled | Stage::Ready => false,
-        Stage::Blocked | Stage::Poisoned => true,
-    };
-    if !(met_before && last == found) {
-        keep(met, x);
+    match place.find_open(rows, board, seat, shots, latches, order) {
+        Next::AllEnded => false,
+        Next::Still => true,
+        Next::Open(x) => {
+            keep(met, &x, rows, shots);
+            true
+        }
     }
 }
 

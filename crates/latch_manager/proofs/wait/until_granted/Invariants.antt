@@ -6,7 +6,7 @@ use Rattle.latch_manager.proofs.wait.until_granted.Given as goal
 abbrev pub invariant-loop : goal.invariant-loop
 invariant-loop g l =
     (goal.iterator-loop g).can_next l.iterator' × (goal.iterator-loop g).is_finite l.iterator'
-    × (l.waiting.table ≡ l.initial.waiting.table)
+    × (l.waiting.core ≡ l.initial.waiting.core)
     × StillWaits l.initial.waiting.r l.waiting.r
     × (g.P.Patience.refusals l.patience ≡ g.P.Patience.refusals l.initial.patience)
     × (g.P.Patience.limit l.patience ≡ g.P.Patience.limit l.initial.patience)

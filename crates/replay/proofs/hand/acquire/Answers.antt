@@ -1,4 +1,4 @@
-use Rattle.std.proofs.Common.{◌≡◌, ℕ, ◌≤◌, IfSome, Option, Some, None, refl, sym, ap, subst}
+use Rattle.std.proofs.Common.{ℕ, Option, Some, None, refl, sym, ap, subst}
 use Rattle.std.proofs.lemmas.Result.{IfOk-weaker}
 use Rattle.replay.specs.Running.{SomeTurns}
 use Rattle.replay.specs.Sessions.{PatienceOf}

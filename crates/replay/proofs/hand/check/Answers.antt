@@ -1,4 +1,4 @@
-use Rattle.std.proofs.Common.{◌≡◌, List, sym, subst}
+use Rattle.std.proofs.Common.{List, sym, subst}
 use Rattle.latch_model.specs.declared.latch.Latch.{Latch}
 use Rattle.script.specs.declared.command.Command.TheVariants.{Check}
 use Rattle.replay.specs.Blocks.{GrowsBy}

@@ -1,4 +1,4 @@
-use Rattle.std.proofs.Common.{◌≡◌, ℕ, sym, subst}
+use Rattle.std.proofs.Common.{sym, subst}
 use Rattle.waiter.specs.Says.{WaitingSays}
 use Rattle.latch_manager.specs.Acquiring.{WaitEnds}
 use Rattle.latch_manager.specs.Waiting.{WaitGrants}
@@ -10,8 +10,8 @@ use Rattle.replay.proofs.hand.wait_with.Goals as goal
 
 pub returns-in-Ok-clause-stands : goal.returns-in-Ok-clause-stands
 returns-in-Ok-clause-stands g c bs ds k turns of grows waits quiet has s =
-    subst (λ (p : PassSays). Standing g.N.Making.made.table p.p ds (Holding c.in-Ok.granted)) (sym c.in-Ok.ensures.granted.1)
-    (turned-holds g.N.Making.made.table c.args.pass.now.p bs ds k grows waits quiet c.args.optimist s c.in-Ok.granted
+    subst (λ (p : PassSays). Standing g.N.Making.made.core p.p ds (Holding c.in-Ok.granted)) (sym c.in-Ok.ensures.granted.1)
+    (turned-holds g.N.Making.made.core c.args.pass.now.p bs ds k grows waits quiet c.args.optimist s c.in-Ok.granted
     (subst (λ (w : WaitingSays). WaitGrants w c.in-Ok.granted) c.into_waiting.ensures c.in-Ok.ensures.granted.0))
 
 pub returns-in-Err-clause-stands : goal.returns-in-Err-clause-stands

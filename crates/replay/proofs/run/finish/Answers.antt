@@ -1,5 +1,4 @@
-use Rattle.std.proofs.Common.{◌≡◌, ℕ, ◌≤◌, false, sym, ◌∙◌, ap, subst}
-use Rattle.std.specs.List.{All, Contains}
+use Rattle.std.proofs.Common.{◌≡◌, ℕ, false, sym, ◌∙◌, ap, subst}
 use Rattle.latch_model.specs.Histories.{is_open}
 use Rattle.latch_model.specs.Legal.{IsLegal}
 use Rattle.latch_model.specs.Recorded.{Recorded}
@@ -22,6 +21,6 @@ returns-clause-closed c = subst (λ (h : Recorded). (id : ℕ) → is_open h.ent
 pub returns-clause-follows : goal.returns-clause-follows
 returns-clause-follows c cs script follows =
     subst (λ (h : Recorded). FollowsScript h.entries cs) (sym c.close.ensures.history)
-    (follows-script 64 c.args.passes.items c.requires.whos c.args.desk.table c.args.desk.log cs script c.requires.rested follows c.close.ensures.own
+    (follows-script 64 c.args.passes.items c.requires.whos c.args.desk.core.signals c.args.desk.log cs script c.requires.rested follows c.close.ensures.own
     c.close.ensures.shown
     (subst (ByGiven c.args.desk.log) (c.known.ensures.given ∙ ap (λ (s : Sizes). s.lanes) c.requires.sizes) c.close.ensures.by_given) (λ w le. le))

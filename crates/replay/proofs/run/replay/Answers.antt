@@ -1,4 +1,4 @@
-use Rattle.std.proofs.Common.{◌≡◌, ◌∙◌, All, OnOk, subst}
+use Rattle.std.proofs.Common.{◌∙◌, All, OnOk, subst}
 use Rattle.replay.specs.Running.{FollowsIn}
 use Rattle.replay.proofs.Closing.{fresh-whos}
 use Rattle.replay.proofs.run.replay.Goals as goal

@@ -14,7 +14,7 @@ pub returns-in-Acquire-clause-stands : goal.returns-in-Acquire-clause-stands
 returns-in-Acquire-clause-stands g c =
     IfOk-weaker c.acquire.result _ _ (λ next f bs s.
     subst
-    (λ (m : Mode). Standing g.N.Making.made.table c.acquire.new.pass.p
+    (λ (m : Mode). Standing g.N.Making.made.core c.acquire.new.pass.p
     (bs ++ new_block c.args.line m c.args.policy c.args.turns c.args.latches.now ∷ []) next)
     (sym c.in-Acquire.is) (f bs c.args.line c.args.policy c.args.latches.now c.in_ok-request.ensures s)) c.acquire.ensures.stands
 
@@ -22,7 +22,7 @@ pub returns-in-Optimistic-clause-stands : goal.returns-in-Optimistic-clause-stan
 returns-in-Optimistic-clause-stands g c =
     IfOk-weaker c.optimistic.result _ _ (λ next f bs s.
     subst
-    (λ (m : Mode). Standing g.N.Making.made.table c.optimistic.new.pass.p
+    (λ (m : Mode). Standing g.N.Making.made.core c.optimistic.new.pass.p
     (bs ++ new_block c.args.line m c.args.policy c.args.turns c.args.latches.now ∷ []) next)
     (sym c.in-Optimistic.is) (f bs c.args.line c.args.policy c.args.turns c.args.latches.now c.in_ok-request.ensures s)) c.optimistic.ensures.stands
 
@@ -30,7 +30,7 @@ pub returns-in-Look-clause-stands : goal.returns-in-Look-clause-stands
 returns-in-Look-clause-stands g c =
     IfOk-weaker c.look.result _ _ (λ next f bs s.
     subst
-    (λ (m : Mode). Standing g.N.Making.made.table c.look.new.pass.p
+    (λ (m : Mode). Standing g.N.Making.made.core c.look.new.pass.p
     (bs ++ new_block c.args.line m c.args.policy c.args.turns c.args.latches.now ∷ []) next)
     (sym c.in-Look.is) (f bs c.args.line c.args.policy c.args.latches.now c.in_ok-request.ensures s)) c.look.ensures.stands
 

@@ -8,10 +8,10 @@ use Rattle.replay.proofs.session.pass_or_run.Goals as goal
 
 pub returns-then-not-is_own-clause-at : goal.returns-then-not-is_own-clause-at
 returns-then-not-is_own-clause-at g c =
-    at-other c.args.commands.now c.requires.script g.N.Making.made.table c.args.who c.args.i c.args.pass.now c.args.live c.args.hand
+    at-other c.args.commands.now c.requires.script g.N.Making.made.core c.args.who c.args.i c.args.pass.now c.args.live c.args.hand
     c.index-commands-i.result (slice_get_read c.args.commands.now _ c.args.i c.index-commands-i.result refl c.requires.inside c.index-commands-i.is)
     (sym (own-is c.args.commands.now c.requires.script c.args.i c.args.who c.index-commands-i.result
-    (slice_get_read c.args.commands.now _ c.args.i c.index-commands-i.result refl c.requires.inside c.index-commands-i.is) g.N.Making.made.table
+    (slice_get_read c.args.commands.now _ c.args.i c.index-commands-i.result refl c.requires.inside c.index-commands-i.is) g.N.Making.made.core
     c.args.pass.now c.args.live c.args.hand c.requires.at)
     ∙ (sym c.is_own.ensures ∙ c.if-not-is_own.true))
     c.requires.at
@@ -23,17 +23,17 @@ run_command-ran-requires-clause-turns g c =
 pub returns-in-Ok-clause-at : goal.returns-in-Ok-clause-at
 returns-in-Ok-clause-at g c =
     subst
-    (λ (l : Option ℕ). IsAt c.args.commands.now g.N.Making.made.table c.args.who (c.args.i + 1) c.run_command-ran.new.pass l c.in-Ok.next)
+    (λ (l : Option ℕ). IsAt c.args.commands.now g.N.Making.made.core c.args.who (c.args.i + 1) c.run_command-ran.new.pass l c.in-Ok.next)
     (sym c.live_behind.ensures)
-    (at-own c.args.commands.now c.requires.script g.N.Making.made.table c.args.who c.args.i c.args.pass.now c.run_command-ran.new.pass c.args.hand
+    (at-own c.args.commands.now c.requires.script g.N.Making.made.core c.args.who c.args.i c.args.pass.now c.run_command-ran.new.pass c.args.hand
     c.in-Ok.next c.in-Ok.ensures.keeps c.index-commands-i.result c.args.live
     (slice_get_read c.args.commands.now _ c.args.i c.index-commands-i.result refl c.requires.inside c.index-commands-i.is)
     (sym (own-is c.args.commands.now c.requires.script c.args.i c.args.who c.index-commands-i.result
-    (slice_get_read c.args.commands.now _ c.args.i c.index-commands-i.result refl c.requires.inside c.index-commands-i.is) g.N.Making.made.table
+    (slice_get_read c.args.commands.now _ c.args.i c.index-commands-i.result refl c.requires.inside c.index-commands-i.is) g.N.Making.made.core
     c.args.pass.now c.args.live c.args.hand c.requires.at)
     ∙ (sym c.is_own.ensures ∙ c.if-not-is_own.false))
     (subst
-    (λ (t : Option ℕ). Ran g.N.Making.made.table (c.args.i + 2) t c.index-commands-i.result c.args.pass.now c.args.hand
+    (λ (t : Option ℕ). Ran g.N.Making.made.core (c.args.i + 2) t c.index-commands-i.result c.args.pass.now c.args.hand
     c.run_command-ran.new.pass c.in-Ok.next)
     c.turns_of-turns.ensures c.in-Ok.ensures.ran)
     c.in-Ok.ensures.tied c.requires.at)

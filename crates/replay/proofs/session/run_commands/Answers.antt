@@ -1,4 +1,4 @@
-use Rattle.std.proofs.Common.{◌≡◌, ℕ, ◌≤◌, length, arith, sym, ◌∙◌, ap, subst}
+use Rattle.std.proofs.Common.{◌≡◌, ℕ, length, arith, sym, subst}
 use Rattle.script.specs.Follows.{blocks_of}
 use Rattle.signal_board.specs.Says.{PassSays}
 use Rattle.replay.specs.Running.{IsAt}
@@ -12,10 +12,10 @@ returns-clause-stands g c =
     let whole = c.loop-i.invariant.1 in
     let over = c.loop-i-test.false in
     let end : c.loop-i.i ≡ length c.args.commands.now = omega arith in
-    let at : IsAt c.args.commands.now g.N.Making.made.table c.args.pass.now.p.who (length c.args.commands.now) c.loop-i.pass c.loop-i.live c.loop-i.hand =
-    subst (λ (n : ℕ). IsAt c.args.commands.now g.N.Making.made.table c.args.pass.now.p.who n c.loop-i.pass c.loop-i.live c.loop-i.hand) end
+    let at : IsAt c.args.commands.now g.N.Making.made.core c.args.pass.now.p.who (length c.args.commands.now) c.loop-i.pass c.loop-i.live c.loop-i.hand =
+    subst (λ (n : ℕ). IsAt c.args.commands.now g.N.Making.made.core c.args.pass.now.p.who n c.loop-i.pass c.loop-i.live c.loop-i.hand) end
     c.loop-i.invariant.2 in
-    subst (λ (p : PassSays). Standing g.N.Making.made.table p.p (blocks_of c.args.commands.now c.args.pass.now.p.who) Idle)
-    (sym (c.release.ensures.same (idle-at_end c.args.commands.now c.requires.script g.N.Making.made.table c.args.pass.now.p.who c.loop-i.pass
+    subst (λ (p : PassSays). Standing g.N.Making.made.core p.p (blocks_of c.args.commands.now c.args.pass.now.p.who) Idle)
+    (sym (c.release.ensures.same (idle-at_end c.args.commands.now c.requires.script g.N.Making.made.core c.args.pass.now.p.who c.loop-i.pass
     c.loop-i.live c.loop-i.hand at)))
-    (stands-at_end c.args.commands.now c.requires.script g.N.Making.made.table c.args.pass.now.p.who c.loop-i.pass c.loop-i.live c.loop-i.hand at)
+    (stands-at_end c.args.commands.now c.requires.script g.N.Making.made.core c.args.pass.now.p.who c.loop-i.pass c.loop-i.live c.loop-i.hand at)

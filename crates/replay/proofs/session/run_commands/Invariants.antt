@@ -6,5 +6,5 @@ use Rattle.replay.proofs.session.run_commands.Given as goal
 abbrev pub invariant-loop-i : goal.invariant-loop-i
 invariant-loop-i g l =
     (l.i ≤ l.i-end) × (l.i-end ≡ length l.initial.commands)
-    × IsAt l.initial.commands g.N.Making.made.table l.initial.pass.p.who l.i l.pass l.live l.hand
+    × IsAt l.initial.commands g.N.Making.made.core l.initial.pass.p.who l.i l.pass l.live l.hand
     × Keeps l.initial.pass l.pass

@@ -1,5 +1,6 @@
+use Rattle.waiter.specs.Says.{id_of}
 use Rattle.replay_rows.proofs.watched.watched.Given as goal
 
 -- The making is that of the desk which was made.
 abbrev pub ghosts-within : goal.ghosts-within
-ghosts-within g a = record { made = record { table = a.core.board.table; sizes = a.core.board.sizes } }
+ghosts-within g a = record { made = record { core = id_of a.core; sizes = a.core.board.sizes } }

@@ -1,6 +1,7 @@
-use Rattle.std.proofs.Common.{sym, ◌∙◌, subst}
+use Rattle.std.proofs.Common.{ap, sym, ◌∙◌, subst}
 use Rattle.latch_model.specs.Legal.{IsLegal}
 use Rattle.latch_model.specs.Recorded.{Recorded}
+use Rattle.waiter.specs.Says.{CoreId}
 use Rattle.sequence_core.specs.Says.{HasEachPass}
 use Rattle.sequence_core.proofs.Passes.{has_four}
 use Rattle.sequence_core.proofs.sessions.close_four.Goals as goal
@@ -8,7 +9,7 @@ use Rattle.sequence_core.proofs.sessions.close_four.Goals as goal
 pub close-requires-clause-passes : goal.close-requires-clause-passes
 close-requires-clause-passes g c =
     let r = c.requires in
-    let table = sym r.desk.0 in
+    let table = ap (λ (d : CoreId). d.signals) (sym r.desk.0) in
     subst (HasEachPass c.args.desk) (sym c.in_a_list-passes.ensures)
     (has_four c.args.desk c.args.one c.args.two c.args.three c.args.four r.desk.1
     (record { same = r.one.0 ∙ table; number = r.one.1; idle = r.one.2 })

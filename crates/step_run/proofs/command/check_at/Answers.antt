@@ -3,7 +3,7 @@ use Rattle.std.proofs.lemmas.Result.{on_ok_weaker}
 use Rattle.step_run.specs.Lives.{IsLive, seen_live, with_value}
 use Rattle.step_run.specs.Seen.{seen_run}
 use Rattle.latch_model.specs.declared.latch.Latch.{Latch}
-use Rattle.waiter.specs.Says.{OptimistSays}
+use Rattle.waiter.specs.Says.{OptimistSays, id_of}
 use Rattle.step_run.specs.Checking.{ChecksAs}
 use Rattle.step_run.specs.Lives.{IsOf, is_held}
 use Rattle.step_run.specs.declared.live.Value.{Value}
@@ -19,11 +19,11 @@ check_value-requires-clause-optimistic c =
     let x = c.index_mut-live.result.now in
     c.requires.optimistic (seen_live x) (seen_get c.args.run.now.lives.items c.args.i x c.index_mut-live.ensures.value c.requires.inside)
 
-pub check_value-requires-clause-table : goal.check_value-requires-clause-table
-check_value-requires-clause-table c =
+pub check_value-requires-clause-core : goal.check_value-requires-clause-core
+check_value-requires-clause-core c =
     let x = c.index_mut-live.result.now in
     let at = seen_get c.args.run.now.lives.items c.args.i x c.index_mut-live.ensures.value c.requires.inside in
-    (x.session, (Each-at (IsLive c.args.run.now.core.board.table) (seen_run c.args.run.now).lives c.args.i (seen_live x) at c.requires.sound.lives).of)
+    (x.session, (Each-at (IsLive (id_of c.args.run.now.core)) (seen_run c.args.run.now).lives c.args.i (seen_live x) at c.requires.sound.lives).of)
 
 pub returns-clause-sound : goal.returns-clause-sound
 returns-clause-sound c =
@@ -32,11 +32,11 @@ returns-clause-sound c =
     let at = seen_get xs c.args.i x c.index_mut-live.ensures.value c.requires.inside in
     let o = c.requires.optimistic (seen_live x) at in
     let p = c.check_value.ensures.kept o.0 o.1 in
-    let of : IsOf c.args.run.now.core.board.table x.session (Optimist o.0) =
-    subst (λ (v : Value). IsOf c.args.run.now.core.board.table x.session v) o.1
-    (Each-at (IsLive c.args.run.now.core.board.table) (seen_run c.args.run.now).lives c.args.i (seen_live x) at c.requires.sound.lives).of in
+    let of : IsOf (id_of c.args.run.now.core) x.session (Optimist o.0) =
+    subst (λ (v : Value). IsOf (id_of c.args.run.now.core) x.session v) o.1
+    (Each-at (IsLive (id_of c.args.run.now.core)) (seen_run c.args.run.now).lives c.args.i (seen_live x) at c.requires.sound.lives).of in
     sound_value (seen_run c.args.run.now) c.args.i (seen_live x) c.check_value.new.value _ at (ap is_held p.1 ∙ sym (ap is_held o.1))
-    (subst (λ (v : Value). IsOf c.args.run.now.core.board.table x.session v) (sym p.1) (p.2 ∙ of.0, ap (λ r. r.who) p.3 ∙ of.1))
+    (subst (λ (v : Value). IsOf (id_of c.args.run.now.core) x.session v) (sym p.1) (p.2 ∙ of.0, ap (λ r. r.who) p.3 ∙ of.1))
     (set_value xs c.args.i x c.check_value.new.value c.index_mut-live.ensures.value) c.requires.sound
 
 pub returns-clause-step : goal.returns-clause-step

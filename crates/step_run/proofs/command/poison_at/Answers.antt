@@ -1,5 +1,6 @@
 use Rattle.std.proofs.Common.{map, refl, sym, ap, ◌∙◌}
 use Rattle.std.proofs.lemmas.Result.{on_ok_weaker}
+use Rattle.waiter.specs.Says.{id_of}
 use Rattle.step_run.specs.Lives.{IsLive, seen_live, with_value}
 use Rattle.step_run.specs.Seen.{seen_run}
 use Rattle.step_run.specs.Lives.{called_value}
@@ -14,16 +15,16 @@ pub poison-requires : goal.poison-requires
 poison-requires c =
     let x = c.index_mut-live.result.now in
     let at = seen_get c.args.run.now.lives.items c.args.i x c.index_mut-live.ensures.value c.requires.inside in
-    (x.session, (Each-at (IsLive c.args.run.now.core.board.table) (seen_run c.args.run.now).lives c.args.i (seen_live x) at c.requires.sound.lives).of)
+    (x.session, (Each-at (IsLive (id_of c.args.run.now.core)) (seen_run c.args.run.now).lives c.args.i (seen_live x) at c.requires.sound.lives).of)
 
 pub returns-then-poison-clause-sound : goal.returns-then-poison-clause-sound
 returns-then-poison-clause-sound c =
     let x = c.index_mut-live.result.now in
     let xs = c.args.run.now.lives.items in
     let at = seen_get xs c.args.i x c.index_mut-live.ensures.value c.requires.inside in
-    let l = Each-at (IsLive c.args.run.now.core.board.table) (seen_run c.args.run.now).lives c.args.i (seen_live x) at c.requires.sound.lives in
+    let l = Each-at (IsLive (id_of c.args.run.now.core)) (seen_run c.args.run.now).lives c.args.i (seen_live x) at c.requires.sound.lives in
     sound_value (seen_run c.args.run.now) c.args.i (seen_live x) (called_value x.value) _ at (held_called x.value)
-    (of_called c.args.run.now.core.board.table x.session x.value l.of)
+    (of_called (id_of c.args.run.now.core) x.session x.value l.of)
     (set_value xs c.args.i x c.poison.new.value c.index_mut-live.ensures.value
     ∙ ap (λ (v : Value). with_value c.args.i v (map seen_live xs)) c.poison.ensures.value)
     c.requires.sound
@@ -33,9 +34,9 @@ returns-else-poison-clause-sound c =
     let x = c.index_mut-live.result.now in
     let xs = c.args.run.now.lives.items in
     let at = seen_get xs c.args.i x c.index_mut-live.ensures.value c.requires.inside in
-    let l = Each-at (IsLive c.args.run.now.core.board.table) (seen_run c.args.run.now).lives c.args.i (seen_live x) at c.requires.sound.lives in
+    let l = Each-at (IsLive (id_of c.args.run.now.core)) (seen_run c.args.run.now).lives c.args.i (seen_live x) at c.requires.sound.lives in
     sound_value (seen_run c.args.run.now) c.args.i (seen_live x) (called_value x.value) _ at (held_called x.value)
-    (of_called c.args.run.now.core.board.table x.session x.value l.of)
+    (of_called (id_of c.args.run.now.core) x.session x.value l.of)
     (set_value xs c.args.i x c.poison.new.value c.index_mut-live.ensures.value
     ∙ ap (λ (v : Value). with_value c.args.i v (map seen_live xs)) c.poison.ensures.value)
     c.requires.sound

@@ -30,8 +30,8 @@ returns-in_ok-release-in-Release-clause-step c = λ s h line.
 pub returns-in_ok-metrics_line-in-Metrics-clause-step : goal.returns-in_ok-metrics_line-in-Metrics-clause-step
 returns-in_ok-metrics_line-in-Metrics-clause-step c = λ s h line.
     subst (λ (k : Command). Makes (one s k) (seen_run c.args.run.now) c.args.out.now.items c.metrics_line.new.out.items) (sym c.in-Metrics.is)
-    (metrics_makes s (seen_run c.args.run.now) c.metrics.result c.args.run.now.desk.sizes c.args.out.now.items c.metrics_line.new.out.items
-    c.metrics.ensures h c.in_ok-metrics_line-in-Metrics.ensures)
+    (metrics_makes s (seen_run c.args.run.now) c.metrics.result c.args.run.now.desk.free c.args.out.now.items c.metrics_line.new.out.items
+    c.metrics.ensures.counts h c.in_ok-metrics_line-in-Metrics.ensures)
 
 pub check-requires-clause-optimistic : goal.check-requires-clause-optimistic
 check-requires-clause-optimistic c = subst (λ (k : Command). Allowed k (seen_run c.args.run.now).lives) c.in-Check.is c.requires.allowed

@@ -3,7 +3,7 @@ use Rattle.std.specs.Prelude.{OnOk}
 use Rattle.step_run.specs.Runs.{IsLent, Makes, Sound}
 use Rattle.step_run.specs.Lives.{IsLive, LiveSays, seen_live}
 use Rattle.step_run.specs.Seen.{seen_run}
-use Rattle.waiter.specs.Says.{WaitingSays}
+use Rattle.waiter.specs.Says.{WaitingSays, id_of}
 use Rattle.step_run.specs.Steps.{Step}
 use Rattle.step_run.specs.declared.live.Value.TheVariants.{Granted, Over}
 use Rattle.step_run.proofs.Commanding.{kept_over, kept_value, waits_none, waits_optimistic, waits_pending}
@@ -21,8 +21,8 @@ put-requires c =
 pub turn-requires-clause-lent : goal.turn-requires-clause-lent
 turn-requires-clause-lent c =
     let w = seen_there c.args.run.now.lives.items c.args.i c.requires.inside in
-    let l = Each-at (IsLive c.args.run.now.core.board.table) (seen_run c.args.run.now).lives c.args.i w.0 w.1 c.requires.sound.lives in
-    let of = of_optimist c.args.run.now.core.board.table w.0.session w.0.value c.in-Optimist.optimist (c.in-Optimist.ensures.value w.0 w.1) l.of in
+    let l = Each-at (IsLive (id_of c.args.run.now.core)) (seen_run c.args.run.now).lives c.args.i w.0 w.1 c.requires.sound.lives in
+    let of = of_optimist (id_of c.args.run.now.core) w.0.session w.0.value c.in-Optimist.optimist (c.in-Optimist.ensures.value w.0 w.1) l.of in
     subst (λ k. IsLent c.args.i k (record (seen_run c.args.run.now) { lives = map seen_live c.take.new.lives.items }))
     (sym (ap (λ (x : WaitingSays). x.r.who) c.into_waiting.ensures ∙ of.1))
     (lent_take (seen_run c.args.run.now) c.args.i w.0 (map seen_live c.take.new.lives.items) w.1 c.take.ensures.lives)
@@ -30,40 +30,40 @@ turn-requires-clause-lent c =
 pub turn-requires-clause-sound : goal.turn-requires-clause-sound
 turn-requires-clause-sound c =
     let w = seen_there c.args.run.now.lives.items c.args.i c.requires.inside in
-    let l = Each-at (IsLive c.args.run.now.core.board.table) (seen_run c.args.run.now).lives c.args.i w.0 w.1 c.requires.sound.lives in
-    let of = of_optimist c.args.run.now.core.board.table w.0.session w.0.value c.in-Optimist.optimist (c.in-Optimist.ensures.value w.0 w.1) l.of in
+    let l = Each-at (IsLive (id_of c.args.run.now.core)) (seen_run c.args.run.now).lives c.args.i w.0 w.1 c.requires.sound.lives in
+    let of = of_optimist (id_of c.args.run.now.core) w.0.session w.0.value c.in-Optimist.optimist (c.in-Optimist.ensures.value w.0 w.1) l.of in
     subst (λ k. Sound k (record (seen_run c.args.run.now) { lives = map seen_live c.take.new.lives.items }))
     (sym (ap (λ (x : WaitingSays). x.r.who) c.into_waiting.ensures ∙ of.1))
     (sound_take (seen_run c.args.run.now) c.args.i w.0 (map seen_live c.take.new.lives.items) w.1 c.take.ensures.lives c.requires.sound)
 
-pub turn-requires-clause-table : goal.turn-requires-clause-table
-turn-requires-clause-table c =
+pub turn-requires-clause-core : goal.turn-requires-clause-core
+turn-requires-clause-core c =
     let w = seen_there c.args.run.now.lives.items c.args.i c.requires.inside in
-    let l = Each-at (IsLive c.args.run.now.core.board.table) (seen_run c.args.run.now).lives c.args.i w.0 w.1 c.requires.sound.lives in
-    let of = of_optimist c.args.run.now.core.board.table w.0.session w.0.value c.in-Optimist.optimist (c.in-Optimist.ensures.value w.0 w.1) l.of in
-    ap (λ (x : WaitingSays). x.table) c.into_waiting.ensures ∙ of.0
+    let l = Each-at (IsLive (id_of c.args.run.now.core)) (seen_run c.args.run.now).lives c.args.i w.0 w.1 c.requires.sound.lives in
+    let of = of_optimist (id_of c.args.run.now.core) w.0.session w.0.value c.in-Optimist.optimist (c.in-Optimist.ensures.value w.0 w.1) l.of in
+    ap (λ (x : WaitingSays). x.core) c.into_waiting.ensures ∙ of.0
 
 pub turn-requires-in-Waiting-clause-lent : goal.turn-requires-in-Waiting-clause-lent
 turn-requires-in-Waiting-clause-lent c =
     let w = seen_there c.args.run.now.lives.items c.args.i c.requires.inside in
-    let l = Each-at (IsLive c.args.run.now.core.board.table) (seen_run c.args.run.now).lives c.args.i w.0 w.1 c.requires.sound.lives in
-    let of = of_waiting c.args.run.now.core.board.table w.0.session w.0.value c.in-Waiting.waiting (c.in-Waiting.ensures.value w.0 w.1) l.of in
+    let l = Each-at (IsLive (id_of c.args.run.now.core)) (seen_run c.args.run.now).lives c.args.i w.0 w.1 c.requires.sound.lives in
+    let of = of_waiting (id_of c.args.run.now.core) w.0.session w.0.value c.in-Waiting.waiting (c.in-Waiting.ensures.value w.0 w.1) l.of in
     subst (λ k. IsLent c.args.i k (record (seen_run c.args.run.now) { lives = map seen_live c.take.new.lives.items })) (sym of.1)
     (lent_take (seen_run c.args.run.now) c.args.i w.0 (map seen_live c.take.new.lives.items) w.1 c.take.ensures.lives)
 
 pub turn-requires-in-Waiting-clause-sound : goal.turn-requires-in-Waiting-clause-sound
 turn-requires-in-Waiting-clause-sound c =
     let w = seen_there c.args.run.now.lives.items c.args.i c.requires.inside in
-    let l = Each-at (IsLive c.args.run.now.core.board.table) (seen_run c.args.run.now).lives c.args.i w.0 w.1 c.requires.sound.lives in
-    let of = of_waiting c.args.run.now.core.board.table w.0.session w.0.value c.in-Waiting.waiting (c.in-Waiting.ensures.value w.0 w.1) l.of in
+    let l = Each-at (IsLive (id_of c.args.run.now.core)) (seen_run c.args.run.now).lives c.args.i w.0 w.1 c.requires.sound.lives in
+    let of = of_waiting (id_of c.args.run.now.core) w.0.session w.0.value c.in-Waiting.waiting (c.in-Waiting.ensures.value w.0 w.1) l.of in
     subst (λ k. Sound k (record (seen_run c.args.run.now) { lives = map seen_live c.take.new.lives.items })) (sym of.1)
     (sound_take (seen_run c.args.run.now) c.args.i w.0 (map seen_live c.take.new.lives.items) w.1 c.take.ensures.lives c.requires.sound)
 
-pub turn-requires-in-Waiting-clause-table : goal.turn-requires-in-Waiting-clause-table
-turn-requires-in-Waiting-clause-table c =
+pub turn-requires-in-Waiting-clause-core : goal.turn-requires-in-Waiting-clause-core
+turn-requires-in-Waiting-clause-core c =
     let w = seen_there c.args.run.now.lives.items c.args.i c.requires.inside in
-    let l = Each-at (IsLive c.args.run.now.core.board.table) (seen_run c.args.run.now).lives c.args.i w.0 w.1 c.requires.sound.lives in
-    (of_waiting c.args.run.now.core.board.table w.0.session w.0.value c.in-Waiting.waiting (c.in-Waiting.ensures.value w.0 w.1) l.of).0
+    let l = Each-at (IsLive (id_of c.args.run.now.core)) (seen_run c.args.run.now).lives c.args.i w.0 w.1 c.requires.sound.lives in
+    (of_waiting (id_of c.args.run.now.core) w.0.session w.0.value c.in-Waiting.waiting (c.in-Waiting.ensures.value w.0 w.1) l.of).0
 
 pub returns-in-Optimist-clause-step : goal.returns-in-Optimist-clause-step
 returns-in-Optimist-clause-step c = λ s n h here.

@@ -1,6 +1,6 @@
 use Rattle.std.proofs.Common.{◌≡◌, ℕ, ◌<◌, map, length, sym, ap, subst, add-one, arith}
 use Rattle.std.proofs.lemmas.List.{length-map}
-use Rattle.waiter.specs.Says.{WaitingSays}
+use Rattle.waiter.specs.Says.{WaitingSays, id_of}
 use Rattle.step_run.specs.Lives.{IsLive, seen_live}
 use Rattle.step_run.proofs.Lives.{HeardTo, WarnedTo, heard_all, heard_step, seen_there, warned_all, warned_len, warned_old, warned_step, warned_twice}
 use Rattle.step_run.proofs.Places.{Each-at}
@@ -16,7 +16,7 @@ hear_at-requires-clause-inside c =
 
 pub hear_at-requires-clause-live : goal.hear_at-requires-clause-live
 hear_at-requires-clause-live c = λ l at.
-    Each-at (IsLive c.args.core.now.board.table) (map seen_live c.args.lives.now.items) c.loop-i.i l
+    Each-at (IsLive (id_of c.args.core.now)) (map seen_live c.args.lives.now.items) c.loop-i.i l
     (warned_old c.loop-i.i _ _ l c.loop-i.invariant.lives at) c.requires.lives
 
 pub loop-i-preserved : goal.loop-i-preserved

@@ -1,5 +1,6 @@
 use Rattle.std.proofs.Common.{◌≡◌, ◌+◌, ◌-◌, ◌<◌, [], ◌∷◌, ◌++◌, false, length, refl, sym, ap, ◌∙◌, subst, arith}
 use Rattle.std.specs.Prelude.{slice_set}
+use Rattle.waiter.specs.Says.{id_of}
 use Rattle.step_run.specs.Runs.{RunSays, Sound}
 use Rattle.step_run.specs.Seen.{seen_run}
 use Rattle.sequence_core.specs.Says.{DeskState, next_entry}
@@ -14,12 +15,12 @@ use Rattle.step_run.proofs.Stopping.{finds_place, lacks_rows}
 use Rattle.step_run.proofs.open.begin.Goals as goal
 use Rattle.step_run.proofs.open.begin.Goals.{in-Optimistic, in-Acquire}
 
-pub begin-requires-clause-tables : goal.begin-requires-clause-tables
-begin-requires-clause-tables c =
+pub begin-requires-clause-core : goal.begin-requires-clause-core
+begin-requires-clause-core c =
     let p = c.index_mut.result.now in
     let inside : c.args.session - 1 < length c.args.run.now.passes.items = omega (arith, c.requires.sound.count, c.requires.session.1, c.requires.session.0) in
     let at = get_there c.args.run.now.passes.items (c.args.session - 1) p c.index_mut.ensures.value inside in
-    (c.requires.sound.table, (c.requires.sound.passes (c.args.session - 1) p at).table)
+    (c.requires.sound.core, (c.requires.sound.passes (c.args.session - 1) p at).table)
 
 pub begin-requires-clause-idle : goal.begin-requires-clause-idle
 begin-requires-clause-idle c =
@@ -41,8 +42,8 @@ returns-in-Err-clause-refused c =
     let idle : open_count p.p.mine ≡ 0 = (c.requires.sound.passes (c.args.session - 1) p at).idle (λ z. absurd (omega arith))
     (subst (λ j. has_open j (seen_run c.args.run.now).lives ≡ false) (sym back) c.requires.idle) in
     subst (λ (d : DeskState). Sound 0 (record {
-      board = r.board;
-      desk = d.table;
+      core = r.core;
+      desk = d.core;
       sizes = d.sizes;
       given = d.given;
       log = d.log;
@@ -64,8 +65,8 @@ returns-after-mode-clause-lent c =
     let inside : c.args.session - 1 < length c.args.run.now.passes.items = omega (arith, c.requires.sound.count, c.requires.session.1, c.requires.session.0) in
     let at = get_there c.args.run.now.passes.items (c.args.session - 1) p c.index_mut.ensures.value inside in
     subst (λ (d : DeskState). Sound c.args.session (record {
-      board = r.board;
-      desk = d.table;
+      core = r.core;
+      desk = d.core;
       sizes = d.sizes;
       given = d.given;
       log = d.log;
@@ -97,12 +98,12 @@ returns-after-mode-clause-value c =
     let back : c.args.session - 1 + 1 ≡ c.args.session = omega (arith, c.requires.session.0) in
     let who : p.p.who ≡ c.args.session = (c.requires.sound.passes (c.args.session - 1) p at).who ∙ back in
     let log = c.args.run.now.desk.log in
-    let same = ap (λ k. begun_value c.args.run.now.core.board.table c.args.mode (begun_request log k c.args.mode c.args.request)) who in
+    let same = ap (λ k. begun_value (id_of c.args.run.now.core) c.args.mode (begun_request log k c.args.mode c.args.request)) who in
     elim c.match-mode.branch [
-      | in-Optimistic w ↦ w.result-is ∙ value_optimistic c.args.run.now.core.board.table c.args.mode (begun_request log p.p.who c.args.mode c.args.request)
-          w.optimist.result c.in-Ok.opened w.in-Optimistic.is w.optimist.ensures c.requires.sound.table c.in-Ok.ensures.opened ∙ same
-      | in-Acquire w ↦ w.result-is ∙ value_waiting c.args.run.now.core.board.table c.args.mode (begun_request log p.p.who c.args.mode c.args.request)
-          w.waiting.result c.in-Ok.opened w.in-Acquire.is w.waiting.ensures c.requires.sound.table c.in-Ok.ensures.opened ∙ same
+      | in-Optimistic w ↦ w.result-is ∙ value_optimistic (id_of c.args.run.now.core) c.args.mode (begun_request log p.p.who c.args.mode c.args.request)
+          w.optimist.result c.in-Ok.opened w.in-Optimistic.is w.optimist.ensures c.requires.sound.core c.in-Ok.ensures.opened ∙ same
+      | in-Acquire w ↦ w.result-is ∙ value_waiting (id_of c.args.run.now.core) c.args.mode (begun_request log p.p.who c.args.mode c.args.request)
+          w.waiting.result c.in-Ok.opened w.in-Acquire.is w.waiting.ensures c.requires.sound.core c.in-Ok.ensures.opened ∙ same
     ]
 
 pub run_fault-requires : goal.run_fault-requires

@@ -1,7 +1,8 @@
 use Rattle.std.proofs.Common.{◌≡◌, [], ◌∷◌, ◌++◌, List, length, map, Some, sym, ap, ◌∙◌, subst, arith, vec_len}
 use Rattle.std.specs.Prelude.{slice_get, vec_capacity}
 use Rattle.std.proofs.lemmas.List.{length-map}
-use Rattle.waiter.specs.declared.opened.Core.{Core}
+use Rattle.waiter.specs.declared.shared.Core.{Core}
+use Rattle.waiter.specs.Says.{id_of}
 use Rattle.step_run.specs.Lives.{IsOf, LiveSays, has_open, seen_live}
 use Rattle.sequence_core.specs.Says.{DeskState}
 use Rattle.step_run.specs.Openings.{opening_of}
@@ -25,7 +26,7 @@ push-requires c =
 pub write_opening-requires-clause-sound : goal.write_opening-requires-clause-sound
 write_opening-requires-clause-sound c =
     let o = c.args.opening in
-    let t = c.args.run.now.core.board.table in
+    let core = id_of c.args.run.now.core in
     let v = c.in_ok-value.value in
     let mid = c.begin.new.run in
     let same : mid.core ≡ c.args.run.now.core = c.in_ok-value.ensures.lives.1 in
@@ -33,10 +34,10 @@ write_opening-requires-clause-sound c =
     (record {
       low = c.requires.session.0;
       high = c.requires.session.1;
-      of = subst (λ (k : Core). IsOf k.board.table o.session v) (sym same)
-          (begun_of t c.args.run.now.desk.log o.session o.mode c.args.request v c.in_ok-value.ensures.value);
+      of = subst (λ (k : Core). IsOf (id_of k) o.session v) (sym same)
+          (begun_of core c.args.run.now.desk.log o.session o.mode c.args.request v c.in_ok-value.ensures.value);
     })
-    (begun_held t o.mode _ v c.in_ok-value.ensures.value).0 c.in_ok-value.ensures.lent
+    (begun_held core o.mode _ v c.in_ok-value.ensures.value).0 c.in_ok-value.ensures.lent
 
 pub write_opening-requires-clause-begun : goal.write_opening-requires-clause-begun
 write_opening-requires-clause-begun c =
@@ -47,7 +48,7 @@ write_opening-requires-clause-begun c =
     omega (arith, length-map c.begin.new.run.lives.items seen_live, c.begin.new.run.lives.ok.0, c.len-i.ensures) in (
       opening_of o v,
       ap (λ k. slice_get (seen_run c.push.new.run).lives k) (sym place) ∙ pushed_at ls (seen_run c.push.new.run).lives (opening_of o v) c.push.ensures.lives,
-      (begun_held c.args.run.now.core.board.table o.mode _ v c.in_ok-value.ensures.value).1,
+      (begun_held (id_of c.args.run.now.core) o.mode _ v c.in_ok-value.ensures.value).1,
     )
 
 pub returns-clause-opened : goal.returns-clause-opened
@@ -61,7 +62,7 @@ returns-clause-opened c = λ s h line range.
     let place : length ls ≡ c.len-i.result =
     omega (arith, length-map c.begin.new.run.lives.items seen_live, c.begin.new.run.lives.ok.0, c.len-i.ensures) in
     let here : length r.lives ≡ c.len-i.result = sym (ap (λ (xs : List LiveSays). length xs) kept) ∙ place in
-    let a = opens_as s r (seen_run c.push.new.run) l c.args.run.now.core.board.table c.args.request h line range
+    let a = opens_as s r (seen_run c.push.new.run) l (id_of c.args.run.now.core) c.args.request h line range
     (ap (λ (d : DeskState). d.log) c.push.ensures.others.1 ∙ c.in_ok-value.ensures.log) c.in_ok-value.ensures.value
     (c.push.ensures.lives ∙ ap (λ (xs : List LiveSays). xs ++ l ∷ []) kept) in
     let at : slice_get (seen_run c.push.new.run).lives c.len-i.result ≡ Some l =
@@ -74,7 +75,7 @@ returns-clause-opened c = λ s h line range.
 pub first_turn-requires-clause-sound : goal.first_turn-requires-clause-sound
 first_turn-requires-clause-sound c =
     let o = c.args.opening in
-    let t = c.args.run.now.core.board.table in
+    let core = id_of c.args.run.now.core in
     let v = c.in_ok-value.value in
     let mid = c.begin.new.run in
     let same : mid.core ≡ c.args.run.now.core = c.in_ok-value.ensures.lives.1 in
@@ -83,15 +84,15 @@ first_turn-requires-clause-sound c =
     (record {
       low = c.requires.session.0;
       high = c.requires.session.1;
-      of = subst (λ (k : Core). IsOf k.board.table o.session v) (sym same)
-          (begun_of t c.args.run.now.desk.log o.session o.mode c.args.request v c.in_ok-value.ensures.value);
+      of = subst (λ (k : Core). IsOf (id_of k) o.session v) (sym same)
+          (begun_of core c.args.run.now.desk.log o.session o.mode c.args.request v c.in_ok-value.ensures.value);
     })
-    (begun_held t o.mode _ v c.in_ok-value.ensures.value).0 c.in_ok-value.ensures.lent)
+    (begun_held core o.mode _ v c.in_ok-value.ensures.value).0 c.in_ok-value.ensures.lent)
 
 pub returns-in_err-write_opening-clause-sound : goal.returns-in_err-write_opening-clause-sound
 returns-in_err-write_opening-clause-sound c =
     let o = c.args.opening in
-    let t = c.args.run.now.core.board.table in
+    let core = id_of c.args.run.now.core in
     let v = c.in_ok-value.value in
     let mid = c.begin.new.run in
     let same : mid.core ≡ c.args.run.now.core = c.in_ok-value.ensures.lives.1 in
@@ -100,7 +101,7 @@ returns-in_err-write_opening-clause-sound c =
     (record {
       low = c.requires.session.0;
       high = c.requires.session.1;
-      of = subst (λ (k : Core). IsOf k.board.table o.session v) (sym same)
-          (begun_of t c.args.run.now.desk.log o.session o.mode c.args.request v c.in_ok-value.ensures.value);
+      of = subst (λ (k : Core). IsOf (id_of k) o.session v) (sym same)
+          (begun_of core c.args.run.now.desk.log o.session o.mode c.args.request v c.in_ok-value.ensures.value);
     })
-    (begun_held t o.mode _ v c.in_ok-value.ensures.value).0 c.in_ok-value.ensures.lent)
+    (begun_held core o.mode _ v c.in_ok-value.ensures.value).0 c.in_ok-value.ensures.lent)

@@ -1,5 +1,6 @@
 use Rattle.std.proofs.Common.{◌≡◌, ◌++◌, subst}
 use Rattle.std.specs.Prelude.{OnOk}
+use Rattle.waiter.specs.Says.{id_of}
 use Rattle.step_run.specs.Lives.{IsLive, LiveSays, seen_live}
 use Rattle.step_run.specs.Seen.{seen_run}
 use Rattle.step_run.specs.Openings.{opening_text}
@@ -8,12 +9,12 @@ use Rattle.step_run.proofs.Lives.{inside_seen, seen_at, seen_get}
 use Rattle.step_run.proofs.Places.{Each-at}
 use Rattle.step_run.proofs.open.write_opening.Goals as goal
 
-pub begun_line-requires-clause-table : goal.begun_line-requires-clause-table
-begun_line-requires-clause-table c =
+pub begun_line-requires-clause-core : goal.begun_line-requires-clause-core
+begun_line-requires-clause-core c =
     let x = c.index_mut-live.result.now in
     let xs = c.args.run.now.lives.items in
     let at = seen_get xs c.args.i x c.index_mut-live.ensures.value (inside_seen xs c.args.i c.requires.begun.0 c.requires.begun.1) in
-    (x.session, (Each-at (IsLive c.args.run.now.core.board.table) (seen_run c.args.run.now).lives c.args.i (seen_live x) at c.requires.sound.lives).of)
+    (x.session, (Each-at (IsLive (id_of c.args.run.now.core)) (seen_run c.args.run.now).lives c.args.i (seen_live x) at c.requires.sound.lives).of)
 
 pub returns-clause-line : goal.returns-clause-line
 returns-clause-line c = λ l at.

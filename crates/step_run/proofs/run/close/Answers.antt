@@ -1,5 +1,6 @@
 use Rattle.std.proofs.Common.{[], ◌∷◌, List, map, refl, ap, ◌∙◌, subst, arith}
 use Rattle.std.proofs.lemmas.List.{map-append}
+use Rattle.waiter.specs.Says.{id_of}
 use Rattle.step_run.specs.Lives.{IsLive, LiveSays, seen_live}
 use Rattle.step_run.specs.Seen.{seen_run}
 use Rattle.latch_model.proofs.Elements.{Each}
@@ -15,9 +16,9 @@ end_value-requires-clause-sound c =
 
 pub end_value-requires-clause-value : goal.end_value-requires-clause-value
 end_value-requires-clause-value c =
-    let t = c.loop-live.run.core.board.table in
-    let l = live_last t (seen_live c.in-Some.live) (map seen_live c.pop.new.self.items)
-    (subst (λ (ls : List LiveSays). Each (IsLive t) ls)
+    let core = id_of c.loop-live.run.core in
+    let l = live_last core (seen_live c.in-Some.live) (map seen_live c.pop.new.self.items)
+    (subst (λ (ls : List LiveSays). Each (IsLive core) ls)
     (ap (λ xs. map seen_live xs) c.in-Some.ensures.items ∙ map-append seen_live c.pop.new.self.items (c.in-Some.live ∷ []))
     c.loop-live.invariant.sound.lives) in
     (c.in-Some.live.session, l.low, l.high, l.of)

@@ -8,13 +8,13 @@ use Rattle.step_run.proofs.Lives.{get_there}
 use Rattle.step_run.proofs.Sounding.{sound_passed}
 use Rattle.step_run.proofs.run.end.Goals as goal
 
-pub end-requires-clause-tables : goal.end-requires-clause-tables
-end-requires-clause-tables c =
+pub end-requires-clause-core : goal.end-requires-clause-core
+end-requires-clause-core c =
     let p = c.index_mut.result.now in
     let inside : c.who.result - 1 < length c.args.run.now.passes.items =
     omega (arith, c.requires.sound.count, c.who.ensures, c.requires.session.1, c.requires.session.0) in
     let at = get_there c.args.run.now.passes.items (c.who.result - 1) p c.index_mut.ensures.value inside in
-    (c.requires.sound.table, (c.requires.sound.passes (c.who.result - 1) p at).table, c.requires.table)
+    (c.requires.sound.core, (c.requires.sound.passes (c.who.result - 1) p at).table, c.requires.core)
 
 pub end-requires-clause-session : goal.end-requires-clause-session
 end-requires-clause-session c =
@@ -36,8 +36,8 @@ returns-clause-sound c =
     let at = get_there c.args.run.now.passes.items (c.who.result - 1) p c.index_mut.ensures.value inside in
     let low : 1 ≤ c.who.result = omega (arith, c.who.ensures, c.requires.session.0) in
     subst (λ (d : DeskState). Sound 0 (record {
-      board = r.board;
-      desk = d.table;
+      core = r.core;
+      desk = d.core;
       sizes = d.sizes;
       given = d.given;
       log = d.log;

@@ -4,13 +4,13 @@ use Rattle.step_run.specs.Seen.{seen_run}
 use Rattle.step_run.specs.Lives.{AreHeard}
 use Rattle.sequence_core.specs.Says.{DeskState}
 use Rattle.step_run.proofs.Asking.{asked_whole, last_is}
-use Rattle.waiter.specs.Says.{WaitingSays}
+use Rattle.waiter.specs.Says.{WaitingSays, id_of}
 use Rattle.step_run.proofs.Lives.{warned_trans}
 use Rattle.step_run.proofs.Sounding.{lives_warned}
 use Rattle.step_run.proofs.turn.ask.Goals as goal
 
 pub hear_some-requires-2-clause-lives : goal.hear_some-requires-2-clause-lives
-hear_some-requires-2-clause-lives c = lives_warned c.args.run.now.core.board.table _ _ c.hear_some.ensures.lives c.requires.lives
+hear_some-requires-2-clause-lives c = lives_warned (id_of c.args.run.now.core) _ _ c.hear_some.ensures.lives c.requires.lives
 
 pub returns-clause-lives : goal.returns-clause-lives
 returns-clause-lives c = warned_trans _ _ _ c.hear_some.ensures.lives c.hear_some-2.ensures.lives

@@ -21,7 +21,7 @@ give_up-requires-clause-session c =
 pub returns-then-polls-from-clause-sound : goal.returns-then-polls-from-clause-sound
 returns-then-polls-from-clause-sound c =
     sound_put (seen_run c.args.run.now) c.args.i c.args.waiting.r.who (Waiting c.args.waiting) (map seen_live c.put.new.lives.items) c.requires.lent refl
-    (c.requires.table, refl) c.put.ensures c.requires.sound
+    (c.requires.core, refl) c.put.ensures c.requires.sound
 
 pub returns-then-polls-from-clause-counted : goal.returns-then-polls-from-clause-counted
 returns-then-polls-from-clause-counted c = λ s n m h at o same p f e k.

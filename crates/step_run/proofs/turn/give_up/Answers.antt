@@ -9,8 +9,8 @@ pub end-requires-clause-sound : goal.end-requires-clause-sound
 end-requires-clause-sound c =
     subst (λ w. Sound w (seen_run c.args.run.now)) (sym (ap (λ (e : EndingSays). e.r.who) c.abandon-ending.ensures.ending)) c.requires.sound
 
-pub end-requires-clause-table : goal.end-requires-clause-table
-end-requires-clause-table c = ap (λ (e : EndingSays). e.table) c.abandon-ending.ensures.ending ∙ c.requires.table
+pub end-requires-clause-core : goal.end-requires-clause-core
+end-requires-clause-core c = ap (λ (e : EndingSays). e.core) c.abandon-ending.ensures.ending ∙ c.requires.core
 
 pub end-requires-clause-session : goal.end-requires-clause-session
 end-requires-clause-session c = subst (λ k. (1 ≤ k) × (k ≤ 64)) (sym (ap (λ (e : EndingSays). e.r.who) c.abandon-ending.ensures.ending)) c.requires.session

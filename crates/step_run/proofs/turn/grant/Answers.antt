@@ -22,8 +22,8 @@ settle-requires-clause-sound c =
     subst (λ (r : RunSays). Sound c.stamp-granted.result.0.r.who r) (sym (seen_desk c.args.run.now c.stamp-granted.new.desk c.stamp-granted.ensures.desk))
     (subst (λ w. Sound w (seen_run c.args.run.now)) (sym (ap (λ (g : GrantedSays). g.r.who) c.stamp-granted.ensures.granted)) c.requires.sound)
 
-pub settle-requires-clause-table : goal.settle-requires-clause-table
-settle-requires-clause-table c = ap (λ (g : GrantedSays). g.table) c.stamp-granted.ensures.granted ∙ c.requires.table
+pub settle-requires-clause-core : goal.settle-requires-clause-core
+settle-requires-clause-core c = ap (λ (g : GrantedSays). g.core) c.stamp-granted.ensures.granted ∙ c.requires.core
 
 pub returns-clause-turn : goal.returns-clause-turn
 returns-clause-turn c = λ s n old h at o a.

@@ -18,8 +18,8 @@ use Rattle.step_run.proofs.turn.settle.Goals as goal
 pub end-requires-clause-sound : goal.end-requires-clause-sound
 end-requires-clause-sound c = subst (λ w. Sound w (seen_run c.args.run.now)) (sym (ap (λ (e : EndingSays). e.r.who) c.finish.ensures)) c.requires.sound
 
-pub end-requires-clause-table : goal.end-requires-clause-table
-end-requires-clause-table c = ap (λ (e : EndingSays). e.table) c.finish.ensures ∙ c.requires.table
+pub end-requires-clause-core : goal.end-requires-clause-core
+end-requires-clause-core c = ap (λ (e : EndingSays). e.core) c.finish.ensures ∙ c.requires.core
 
 pub end-requires-clause-session : goal.end-requires-clause-session
 end-requires-clause-session c =
@@ -45,7 +45,7 @@ returns-in-Look-clause-stands c = λ s n h at o f g.
 pub returns-in-Acquire-clause-sound : goal.returns-in-Acquire-clause-sound
 returns-in-Acquire-clause-sound c =
     sound_put (seen_run c.args.run.now) c.args.i c.args.granted.r.who (GrantedValue c.args.granted) (map seen_live c.put.new.lives.items) c.requires.lent refl
-    (c.requires.table, refl) c.put.ensures c.requires.sound
+    (c.requires.core, refl) c.put.ensures c.requires.sound
 
 pub returns-in-Acquire-clause-stands : goal.returns-in-Acquire-clause-stands
 returns-in-Acquire-clause-stands c = λ s n h at o f g.

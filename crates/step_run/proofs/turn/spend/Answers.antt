@@ -17,7 +17,7 @@ put-requires c = (c.requires.lent.live, c.requires.lent.at, c.requires.lent.over
 pub returns-in-None-clause-sound : goal.returns-in-None-clause-sound
 returns-in-None-clause-sound c =
     sound_put (seen_run c.args.run.now) c.args.i c.args.waiting.r.who (Waiting c.args.waiting) (map seen_live c.put.new.lives.items) c.requires.lent refl
-    (c.requires.table, refl) c.put.ensures c.requires.sound
+    (c.requires.core, refl) c.put.ensures c.requires.sound
 
 pub returns-in-None-clause-spent : goal.returns-in-None-clause-spent
 returns-in-None-clause-spent c = λ s n m h at o same p f k.

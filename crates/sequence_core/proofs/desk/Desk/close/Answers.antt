@@ -1,13 +1,13 @@
 use Rattle.std.proofs.Common.{rules, ◌≡◌, ℕ, [], List, false, ◌∙◌, ap, sym, subst}
 use Rattle.std.proofs.lemmas.List.{nil_from_length}
-use Rattle.latch_model.specs.Histories.{is_open}
+use Rattle.latch_model.specs.Histories.{is_open, open_begins}
 use Rattle.latch_model.specs.Legal.{IsLegal}
 use Rattle.latch_model.specs.declared.history.Entry.{Entry}
 use Rattle.latch_model.specs.declared.history.Sizes.{Sizes}
 use Rattle.signal_board.specs.Rule.{ByGiven, IsPrefix, own}
 use Rattle.signal_board.specs.Says.{DeskSays}
 use Rattle.sequence_core.specs.Says.{DeskState}
-use Rattle.sequence_core.proofs.Closing.{all_kept, each_kept, retires_next}
+use Rattle.sequence_core.proofs.Closing.{all_closed, all_kept, each_kept, retires_next}
 use Rattle.sequence_core.proofs.desk.Desk.close.Goals as goal
 
 pub loop-pass-preserved : goal.loop-pass-preserved
@@ -55,3 +55,9 @@ returns-clause-by_given c =
     let log = ap (λ (d : DeskSays). d.log) c.loop-pass.invariant.seat_is ∙ ap (λ (d : DeskState). d.log) c.self.view_is in
     let given = ap (λ (d : DeskSays). d.given) c.loop-pass.invariant.seat_is ∙ ap (λ (d : DeskState). d.given) c.self.view_is in
     subst (λ (x : List Entry × ℕ). ByGiven x.0 x.1) (λ i. (log i, given i)) c.close.ensures.by_given
+
+pub close-requires-2-clause-holds : goal.close-requires-2-clause-holds
+close-requires-2-clause-holds c =
+    let log = ap (λ (d : DeskSays). d.log) c.loop-pass.invariant.seat_is in
+    let rests = c.self.invariant in
+    (c.self.inside.seat.log, c.self.inside.sizes, rests.kept.holds, ap open_begins (sym log) ∙ all_closed c.loop-pass.seat.log c.close.ensures.closed)

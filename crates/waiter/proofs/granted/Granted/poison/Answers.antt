@@ -6,4 +6,4 @@ use Rattle.waiter.proofs.granted.Granted.poison.Goals as goal
 pub invariant_of-self : goal.invariant_of-self
 invariant_of-self c =
     let w = c.self.inside in
-    granted_caused w.who w.request w.grant w.seat c.poison.new.seat (first_cause w.seat.r.cause Called) c.poison.ensures c.self.invariant
+    granted_caused w.who w.mode w.request w.grant w.returned w.seat c.poison.new.seat (first_cause w.seat.r.cause Called) c.poison.ensures c.self.invariant

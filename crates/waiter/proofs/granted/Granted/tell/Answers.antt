@@ -8,7 +8,7 @@ use Rattle.waiter.proofs.granted.Granted.tell.Goals as goal
 pub invariant_of-self : goal.invariant_of-self
 invariant_of-self c =
     let w = c.self.inside in
-    granted_told w.who w.request w.grant w.seat c.tell.new.seat c.args.desk.now.log c.tell.ensures.seat c.self.invariant
+    granted_told w.who w.mode w.request w.grant w.returned w.seat c.tell.new.seat c.args.desk.now.log c.tell.ensures.seat c.self.invariant
 
 pub returns-clause-ended : goal.returns-clause-ended
 returns-clause-ended c =

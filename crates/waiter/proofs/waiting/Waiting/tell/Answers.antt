@@ -9,8 +9,8 @@ use Rattle.waiter.proofs.waiting.Waiting.tell.Goals as goal
 pub invariant_of-self : goal.invariant_of-self
 invariant_of-self c =
     let w = c.self.inside in
-    told w.who w.request w.shot w.turns (last_of w.stage
-    (held_of w.met)) w.order.items w.place.ask w.place.at w.seat c.tell.new.seat c.args.desk.now.log c.tell.ensures.seat c.self.invariant
+    told w.who w.mode w.request w.shots w.turns (last_of w.stage (held_of w.met)) w.order.items w.place w.seat c.tell.new.seat
+    c.args.desk.now.log c.tell.ensures.seat c.self.invariant
 
 pub returns-clause-ended : goal.returns-clause-ended
 returns-clause-ended c =
