@@ -1,4 +1,4 @@
-// A manager of two sessions: requests for which there is no place, and two that begin before either waits.
+// A manager of two sessions: requests for which there is no place or are no rows, and two that begin before either waits.
 ghost use Rattle.std.specs.Prelude.{◌≡◌, ◌<◌, ◌≤◌, ◌+◌, ◌∷◌, ◌++◌, [], vec_len, vec_capacity};
 ghost use Rattle.sequence_core.specs.Says.{AreFresh};
 ghost use Rattle.signal_board.specs.Rule.{open_count};
@@ -14,6 +14,7 @@ use latch_model::latch::{Access, Latch, Latches, Mode, Policy};
 use latch_model::request::Request;
 use sequence_core::desk::{Desk, SeqRefusal};
 use sequence_core::fault::SeqFault;
+use sequence_core::limits::FEWEST_ROWS;
 use signal_board::board::Pass;
 use span_key::{Key, Span};
 use std::alloc::{AllocFailed, Global};
@@ -23,15 +24,22 @@ use std::sync::Wait;
 use std::test::Fail;
 use waiter::{Core, Granted, Waiting};
 
-// A request of so many writes, on keys of one byte from this one on. Its tag is that of a line.
-fn request(rt: &impl Abort, alloc: Global, tag: u32, first: u8, count: u8) -> Request {
+// A request of so many latches, on keys of one byte from this one on. Its tag is that of a line.
+fn request(
+    rt: &impl Abort,
+    alloc: Global,
+    tag: u32,
+    access: Access,
+    first: u8,
+    count: u8,
+) -> Request {
     let mut list = Vec::new(alloc);
     for i in 0..count {
         let Ok(key) = Key::new(alloc, &[first.wrapping_add(i)]) else {
             panic!(rt; "it is short")
         };
         let Ok(()) = list.push(Latch {
-            access: Access::Write,
+            access,
             span: Span::point(key),
             stamp: Stamp::EMPTY,
         }) else {
@@ -47,59 +55,62 @@ fn request(rt: &impl Abort, alloc: Global, tag: u32, first: u8, count: u8) -> Re
     }
 }
 
-// The request of a refusal for want of a place.
-fn full(rt: &impl Abort, refusal: SeqRefusal) -> Request {
+// The request of a refusal for this cause.
+fn refused(rt: &impl Abort, refusal: SeqRefusal, cause: SeqFault) -> Request {
     let SeqRefusal { fault, request } = refusal;
-    assert_eq!(rt; fault, SeqFault::LatchesFull { held: 16, asked: 1 });
+    assert_eq!(rt; fault, cause);
     request
 }
 
-fn sequence_is_full<N: Making, R: Wait + Abort>(
+fn sequence_is_refused<N: Making, R: Wait + Abort>(
     rt: &R,
     alloc: Global,
     manager: &Manager<N>,
     pass: &mut Pass,
     request: Request,
+    cause: SeqFault,
 ) -> Request
     requires { IsIdle N.made pass.old }
     ensures { IsIdle N.made pass.new × (pass.new.p.who ≡ pass.old.p.who) }
 {
     match manager.sequence(rt, alloc, pass, request, Mode::Acquire) {
         Ok(_opened) => panic!(rt; "there is no place"),
-        Err(refusal) => full(rt, refusal),
+        Err(refusal) => refused(rt, refusal, cause),
     }
 }
 
-fn acquire_is_full<N: Making, R: Wait + Abort>(
+fn acquire_is_refused<N: Making, R: Wait + Abort>(
     rt: &R,
     alloc: Global,
     manager: &Manager<N>,
     pass: &mut Pass,
     request: Request,
+    cause: SeqFault,
 ) -> Request
     requires { IsIdle N.made pass.old }
     ensures { IsIdle N.made pass.new × (pass.new.p.who ≡ pass.old.p.who) }
 {
     match manager.acquire(rt, alloc, pass, request, &mut Endless) {
-        Err(AcquireFault::Seq(refusal)) => full(rt, refusal),
+        Err(AcquireFault::Seq(refusal)) => refused(rt, refusal, cause),
         Ok(_granted) => panic!(rt; "there is no place"),
         Err(_) => panic!(rt; "it didn't wait"),
     }
 }
 
-fn optimistic_is_full<N: Making, R: Wait + Abort>(
+fn optimistic_is_refused<N: Making, R: Wait + Abort>(
     rt: &R,
     alloc: Global,
     manager: &Manager<N>,
     pass: &mut Pass,
     request: Request,
+    cause: SeqFault,
 ) -> Request
     requires { IsIdle N.made pass.old }
     ensures { IsIdle N.made pass.new × (pass.new.p.who ≡ pass.old.p.who) }
 {
     match manager.optimistic(rt, alloc, pass, request) {
         Ok(_optimist) => panic!(rt; "there is no place"),
-        Err(refusal) => full(rt, refusal),
+        Err(refusal) => refused(rt, refusal, cause),
     }
 }
 
@@ -163,8 +174,34 @@ fn released<N: Making, R: Wait>(rt: &R, manager: &Manager<N>, pass: &mut Pass, g
     manager.release(rt, pass, granted);
 }
 
-// While 16 latches are held no other one finds place, and a look for a free key does.
+// While one request holds 16 latches no other one begins, for this cause, by any of the calls. A look for a free key does.
 fn one_holds_all<N: Making, R: Wait + Abort>(
+    rt: &R,
+    alloc: Global,
+    manager: &Manager<N>,
+    one: &mut Pass,
+    two: &mut Pass,
+    access: Access,
+    cause: SeqFault,
+)
+    requires one { IsIdle N.made one.old }
+    requires two { IsIdle N.made two.old }
+    ensures one { IsIdle N.made one.new × (one.new.p.who ≡ one.old.p.who) }
+    ensures two { IsIdle N.made two.new × (two.new.p.who ≡ two.old.p.who) }
+{
+    let all = request(rt, alloc, 2, access, b'a', 16);
+    let waiting = begun(rt, alloc, manager, one, all);
+    let held = granted(rt, manager, one, waiting);
+    let single = request(rt, alloc, 3, access, b'z', 1);
+    let single = sequence_is_refused(rt, alloc, manager, two, single, cause);
+    let single = acquire_is_refused(rt, alloc, manager, two, single, cause);
+    let single = optimistic_is_refused(rt, alloc, manager, two, single, cause);
+    looks(rt, alloc, manager, two, single);
+    released(rt, manager, one, held);
+}
+
+// No row is free while they are held, and all are once they aren't.
+fn rows_run_out<N: Making, R: Wait + Abort>(
     rt: &R,
     alloc: Global,
     manager: &Manager<N>,
@@ -176,15 +213,15 @@ fn one_holds_all<N: Making, R: Wait + Abort>(
     ensures one { IsIdle N.made one.new × (one.new.p.who ≡ one.old.p.who) }
     ensures two { IsIdle N.made two.new × (two.new.p.who ≡ two.old.p.who) }
 {
-    let all = request(rt, alloc, 2, b'a', 16);
-    let waiting = begun(rt, alloc, manager, one, all);
-    let held = granted(rt, manager, one, waiting);
-    let single = request(rt, alloc, 3, b'z', 1);
-    let single = sequence_is_full(rt, alloc, manager, two, single);
-    let single = acquire_is_full(rt, alloc, manager, two, single);
-    let single = optimistic_is_full(rt, alloc, manager, two, single);
-    looks(rt, alloc, manager, two, single);
-    released(rt, manager, one, held);
+    let cause = SeqFault::RowsOut { free: 0, need: 13 };
+    one_holds_all(rt, alloc, manager, one, two, Access::Read, cause);
+    assert_eq!(rt; manager.metrics(rt).free, FEWEST_ROWS);
+    let single = request(rt, alloc, 3, Access::Read, b'z', 1);
+    let waiting = begun(rt, alloc, manager, two, single);
+    assert_eq!(rt; manager.metrics(rt).free, FEWEST_ROWS - 13);
+    let held = granted(rt, manager, two, waiting);
+    released(rt, manager, two, held);
+    assert_eq!(rt; manager.metrics(rt).free, FEWEST_ROWS);
 }
 
 // The first session begins, and then the second, before either waits.
@@ -202,8 +239,20 @@ fn both_begin<N: Making, R: Wait + Abort>(
     ensures one { IsIdle N.made one.new × (one.new.p.who ≡ one.old.p.who) }
     ensures two { IsIdle N.made two.new × (two.new.p.who ≡ two.old.p.who) }
 {
-    let first = begun(rt, alloc, manager, one, request(rt, alloc, tag, b'a', 1));
-    let second = begun(rt, alloc, manager, two, request(rt, alloc, then, b'a', 1));
+    let first = begun(
+        rt,
+        alloc,
+        manager,
+        one,
+        request(rt, alloc, tag, Access::Write, b'a', 1),
+    );
+    let second = begun(
+        rt,
+        alloc,
+        manager,
+        two,
+        request(rt, alloc, then, Access::Write, b'a', 1),
+    );
     let first = granted(rt, manager, one, first);
     released(rt, manager, one, first);
     let second = granted(rt, manager, two, second);
@@ -214,6 +263,7 @@ fn both_begin<N: Making, R: Wait + Abort>(
 #[derive(Clone, Copy, Debug)]
 enum Deed {
     OneHoldsAll,
+    RowsRunOut,
     OneBegins,
     TwoBegins,
 }
@@ -232,7 +282,11 @@ fn done<N: Making, R: Wait + Abort>(
     ensures two { IsIdle N.made two.new × (two.new.p.who ≡ two.old.p.who) }
 {
     match deed {
-        Deed::OneHoldsAll => one_holds_all(rt, alloc, manager, one, two),
+        Deed::OneHoldsAll => {
+            let cause = SeqFault::LatchesFull { held: 16, asked: 1 };
+            one_holds_all(rt, alloc, manager, one, two, Access::Write, cause);
+        }
+        Deed::RowsRunOut => rows_run_out(rt, alloc, manager, one, two),
         Deed::OneBegins => both_begin(rt, alloc, manager, one, two, 2, 3),
         Deed::TwoBegins => both_begin(rt, alloc, manager, two, one, 3, 2),
     }
@@ -310,15 +364,15 @@ fn within<N: Making, R: Wait + Abort>(
 }
 
 // A desk of two sessions.
-fn two_sessions(rt: &impl Abort, alloc: Global) -> (Core, Desk, Pass, Pass)
+fn two_sessions(rt: &impl Abort, alloc: Global, latches: u32, rows: u32) -> (Core, Desk, Pass, Pass)
     ensures desk { (result.1.core ≡ id_of result.0) × (result.1.sizes ≡ result.0.board.sizes) × (result.1.sizes.lanes ≡ 2) }
     ensures one { (result.2.table ≡ result.0.board.table) × (open_count result.2.p.mine ≡ 0) × (result.2.p.who ≡ 1) }
     ensures two { (result.3.table ≡ result.0.board.table) × (open_count result.3.p.mine ≡ 0) × (result.3.p.who ≡ 2) }
 {
     let sizes = Sizes {
-        latches: 16,
+        latches,
         lanes: 2,
-        rows: 500,
+        rows,
     };
     let (core, desk, mut passes) = match Desk::new(alloc, sizes) {
         Ok(made) => made,
@@ -331,23 +385,36 @@ fn two_sessions(rt: &impl Abort, alloc: Global) -> (Core, Desk, Pass, Pass)
     (core, desk, one, two)
 }
 
-fn history_after<R: Wait + Abort>(rt: &R, alloc: Global, deed: Deed) -> History {
-    let (core, desk, one, two) = two_sessions(rt, alloc);
+fn history_after<R: Wait + Abort>(
+    rt: &R,
+    alloc: Global,
+    deed: Deed,
+    latches: u32,
+    rows: u32,
+) -> History {
+    let (core, desk, one, two) = two_sessions(rt, alloc, latches, rows);
     within::<Brand, R>(rt, alloc, core, desk, one, two, deed)
 }
 
 #[test]
 fn latches_are_full(rt: HostRuntime) -> Result<(), Fail> {
-    let history = history_after(&rt, rt.alloc(), Deed::OneHoldsAll);
+    let history = history_after(&rt, rt.alloc(), Deed::OneHoldsAll, 16, 500);
     assert!(&rt; history.entries.len() == 4);
     Ok(())
 }
 
 #[test]
+fn rows_are_out(rt: HostRuntime) -> Result<(), Fail> {
+    let history = history_after(&rt, rt.alloc(), Deed::RowsRunOut, 100, FEWEST_ROWS);
+    assert!(&rt; history.entries.len() == 6);
+    Ok(())
+}
+
+#[test]
 fn one_begins_in_front_of_the_grant_of_the_other(rt: HostRuntime) -> Result<(), Fail> {
-    let one = history_after(&rt, rt.alloc(), Deed::OneBegins);
+    let one = history_after(&rt, rt.alloc(), Deed::OneBegins, 16, 500);
     assert!(&rt; report_of(&rt, rt.alloc(), &one).as_slice() == ONE_BEGUN);
-    let two = history_after(&rt, rt.alloc(), Deed::TwoBegins);
+    let two = history_after(&rt, rt.alloc(), Deed::TwoBegins, 16, 500);
     assert!(&rt; report_of(&rt, rt.alloc(), &two).as_slice() == TWO_BEGUN);
     Ok(())
 }
