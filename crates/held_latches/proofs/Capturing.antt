@@ -1,8 +1,8 @@
 -- Shots of both scopes' trees.
-use Rattle.std.proofs.Common.{◌≡◌, ℕ, ◌≤◌, true, false, Bool, if◌then◌else◌, List, [], ◌∷◌, ◌++◌, length, ap, sym, refl, ◌∙◌, subst, arith}
+use Rattle.std.proofs.Common.{◌≡◌, ℕ, ◌+◌, ◌*◌, ◌<◌, ◌≤◌, true, false, Bool, if◌then◌else◌, List, [], ◌∷◌, ◌++◌, length, ap, sym, refl, ◌∙◌, subst, arith}
 use Rattle.std.specs.Prelude.{Option, None, Some}
 use Rattle.std.specs.List.{All}
-use Rattle.std.proofs.lemmas.List.{append-nil, append_assoc, length-append}
+use Rattle.std.proofs.lemmas.List.{append_assoc, length-append}
 use Rattle.std.proofs.lemmas.List.Elements.{All-nil}
 use Rattle.latch_model.specs.Histories.{HeldLatch, Snapshot, in_order}
 use Rattle.latch_model.specs.declared.latch.Access.{Access}
@@ -16,20 +16,21 @@ use Rattle.latch_item.specs.Shape.{RefersTo, Sorted}
 use Rattle.interval_tree.specs.Trees.{height_of, root_of}
 use Rattle.interval_tree.specs.declared.tree.Tree.{Tree}
 use Rattle.read_list.proofs.Links.{list-stays}
-use Rattle.latch_shots.specs.Held.{held_as, held_in}
+use Rattle.latch_shots.specs.Held.{held_as, held_in, others}
 use Rattle.latch_item.specs.declared.shot.Shot.{Shot}
 use Rattle.span_key.specs.declared.scopes.Scope.TheVariants.{Global, Local}
 use Rattle.latch_model.specs.Latches.{in_scope}
 use Rattle.latch_shots.specs.Shown.{Show, root_of as shot_root}
 use Rattle.latch_shots.specs.Roots.{AreRoots, Root}
-use Rattle.held_latches.specs.Content.{Content, held_of, items_in, placed_items, read_items}
-use Rattle.held_latches.specs.Holding.{HoldsFlushed, InScopes, Kept}
-use Rattle.held_latches.specs.Lists.{shown_if, taken_if}
+use Rattle.held_latches.specs.Content.{Content, EachOf, held_of, items_in}
+use Rattle.held_latches.specs.Holding.{EachHeld, HasSpare, HoldsFlushed, InScopes, Kept, MayInsert, WritesIn, slots_of, writer_of}
+use Rattle.held_latches.specs.Lists.{shown_if, taken_if, without_by}
 use Rattle.held_latches.specs.Steps.{CanShow, PoolHas, SameRows}
 use Rattle.held_latches.specs.Stock.{rows_of, tree_root, with_row}
 use Rattle.held_latches.specs.declared.held.HeldLatches.{HeldLatches}
 use Rattle.held_latches.specs.declared.pool.Pool.{Pool}
 use Rattle.held_latches.proofs.Order.{sorted_order}
+use Rattle.held_latches.proofs.Own.{reads-of-others}
 use Rattle.held_latches.proofs.References.{one-refs, pick, refers-in}
 
 -- the rows of four shots, one after another
@@ -62,21 +63,15 @@ held-items a (t ∷ ts) = ap (λ l. held_as a (item_of t) ∷ l) (held-items a t
 pub list-shown : (a : Access) (ts : List Row) → Sorted ts → in_order (held_of a (items_in ts)) ≡ held_in a ts
 list-shown a ts h = ap in_order (held-items a ts) ∙ sorted_order a ts h
 
--- the latches of a list, where they are wanted
-pub shown-if : (wanted : Bool) (a : Access) (xs : List HeldLatch) (ts : List Row) → (wanted ≡ true → xs ≡ held_in a ts)
-    → taken_if wanted xs ≡ held_in a (if wanted then ts else [])
-shown-if true a xs ts h = h refl
-shown-if false a xs ts h = refl
+-- the latches of a list that are others' than the request's own, where they are wanted
+pub shown-if : (own : ℕ) (wanted : Bool) (a : Access) (xs : List HeldLatch) (ts : List Row) → (wanted ≡ true → xs ≡ others own (held_in a ts))
+    → taken_if wanted xs ≡ others own (held_in a (if wanted then ts else []))
+shown-if own true a xs ts h = h refl
+shown-if own false a xs ts h = refl
 
 pub all-if : (wanted : Bool) (P : HeldLatch → Type 0) (xs : List HeldLatch) → All P xs → All P (taken_if wanted xs)
 all-if true P xs h = h
 all-if false P xs h = All-nil P
-
-pub reads-shown : (xs : List HeldLatch) (c : Content) → xs ≡ in_order (held_of Read (read_items c))
-    → Sorted c.reads → c.pending ≡ [] → xs ≡ held_in Read c.reads
-reads-shown xs c is sorted none =
-    is ∙ ap (λ ps. in_order (held_of Read (items_in c.reads ++ placed_items ps))) none
-    ∙ ap (λ l. in_order (held_of Read l)) (append-nil (items_in c.reads)) ∙ list-shown Read c.reads sorted
 
 -- ---- the pool changes in nothing but references and seats that are split off
 pub kept-still : (h : HeldLatches) (p : Pool) (g l : Content) → Kept h g l → SameRows h.pool p
@@ -147,11 +142,12 @@ shots_if global global_write local local_write g l gr gw lr lw =
     shot_root gr (if global_write then g.reads else []) ∷ shot_root gw (if global then g.writes else [])
     ∷ shot_root lr (if local_write then l.reads else []) ∷ shot_root lw (if local then l.writes else []) ∷ []
 
-pub shows-all : (h : HeldLatches) (v w : SeatView) (s : Snapshot) (n k : ℕ) (global global_write local local_write : Bool) (gr gw lr lw : Shot)
-    → (o : HoldsFlushed h s n k global_write local_write) → ViewInvariant h.pool.seat.view
+pub shows-all : (h : HeldLatches) (w : SeatView) (held s : Snapshot) (n k own : ℕ) (global global_write local local_write : Bool) (gr gw lr lw : Shot)
+    → (o : HasSpare h held n k) → ViewInvariant h.pool.seat.view
     → AreRoots (shots_if global global_write local local_write o.holds.global o.holds.local gr gw lr lw) w.refs → 2 ≤ w.number → w.owned ≡ []
-    → InScopes s → Show w gr gw lr lw (shown_if global global_write local local_write s)
-shows-all h v w s n spare global global_write local local_write gr gw lr lw o sound roots number owned scopes =
+    → EachHeld (λ x. x.by ≤ own) held → WritesIn h own global_write local_write → without_by own held ≡ s
+    → InScopes s → Show w own gr gw lr lw (shown_if global global_write local local_write s)
+shows-all h w held s n spare own global global_write local local_write gr gw lr lw o sound roots number owned upto writers rest scopes =
     let g = o.holds.global in let l = o.holds.local in let k = o.holds.kept in let u = h.pool.seat.view in
     let GW = tree_root h.global.writes g.writes in let GR = tree_root h.global.reads g.reads in
     let LW = tree_root h.local.writes l.writes in let LR = tree_root h.local.reads l.reads in
@@ -163,16 +159,20 @@ shows-all h v w s n spare global global_write local local_write gr gw lr lw o so
       items_local_reads = if local_write then l.reads else [];
       items_local_writes = if local then l.writes else [];
       roots = roots;
-      are_global_reads = shown-if global_write Read s.global_reads g.reads
-          (λ e. reads-shown s.global_reads g o.holds.global_reads
-          (tree-sorted u h.global.reads g.reads (GW ∷ []) (LW ∷ LR ∷ []) sound k.stock.refs) (o.no_global e));
-      are_global_writes = shown-if global Write s.global_writes g.writes
-          (λ e. o.holds.global_writes ∙ list-shown Write g.writes (tree-sorted u h.global.writes g.writes [] (GR ∷ LW ∷ LR ∷ []) sound k.stock.refs));
-      are_local_reads = shown-if local_write Read s.local_reads l.reads
-          (λ e. reads-shown s.local_reads l o.holds.local_reads
-          (tree-sorted u h.local.reads l.reads (GW ∷ GR ∷ LW ∷ []) [] sound k.stock.refs) (o.no_local e));
-      are_local_writes = shown-if local Write s.local_writes l.writes
-          (λ e. o.holds.local_writes ∙ list-shown Write l.writes (tree-sorted u h.local.writes l.writes (GW ∷ GR ∷ []) (LR ∷ []) sound k.stock.refs));
+      are_global_reads = shown-if own global_write Read s.global_reads g.reads
+          (λ e. ap (λ (t : Snapshot). t.global_reads) (sym rest) ∙ reads-of-others own held.global_reads g o.holds.global_reads upto.0
+          (λ p m. let last = writers.0 e in let late = k.sound_global.late p m in omega arith)
+          (list-shown Read g.reads (tree-sorted u h.global.reads g.reads (GW ∷ []) (LW ∷ LR ∷ []) sound k.stock.refs)));
+      are_global_writes = shown-if own global Write s.global_writes g.writes
+          (λ e. ap (λ (t : Snapshot). t.global_writes) (sym rest) ∙ ap (others own) (o.holds.global_writes
+          ∙ list-shown Write g.writes (tree-sorted u h.global.writes g.writes [] (GR ∷ LW ∷ LR ∷ []) sound k.stock.refs)));
+      are_local_reads = shown-if own local_write Read s.local_reads l.reads
+          (λ e. ap (λ (t : Snapshot). t.local_reads) (sym rest) ∙ reads-of-others own held.local_reads l o.holds.local_reads upto.2
+          (λ p m. let last = writers.1 e in let late = k.sound_local.late p m in omega arith)
+          (list-shown Read l.reads (tree-sorted u h.local.reads l.reads (GW ∷ GR ∷ LW ∷ []) [] sound k.stock.refs)));
+      are_local_writes = shown-if own local Write s.local_writes l.writes
+          (λ e. ap (λ (t : Snapshot). t.local_writes) (sym rest) ∙ ap (others own) (o.holds.local_writes
+          ∙ list-shown Write l.writes (tree-sorted u h.local.writes l.writes (GW ∷ GR ∷ []) (LR ∷ []) sound k.stock.refs)));
       global_scope = (
         all-if global_write (λ (x : HeldLatch). in_scope Global x.latch ≡ true) s.global_reads scopes.global.0,
         all-if global (λ (x : HeldLatch). in_scope Global x.latch ≡ true) s.global_writes scopes.global.1,
@@ -182,3 +182,32 @@ shows-all h v w s n spare global global_write local local_write gr gw lr lw o so
         all-if local (λ (x : HeldLatch). in_scope Local x.latch ≡ true) s.local_writes scopes.local.1,
       );
     }
+
+-- ---- behind the flush the request's own latches can come, and then it is the last writer where it writes
+writer-upto : (wanted : Bool) (v w id : ℕ) → v ≡ (if wanted then id else w) → w ≤ id → v ≤ id
+writer-upto true v w id e low = omega arith
+writer-upto false v w id e low = omega arith
+
+pub come-flushed : (old new : HeldLatches) (s : Snapshot) (n more id lane j : ℕ) (global local : Bool) → MayInsert old s n more id lane j
+    → HoldsFlushed new s n (13 * j + more) global local → slots_of new ≡ slots_of old
+    → writer_of new Global ≡ (if global then id else writer_of old Global) → writer_of new Local ≡ (if local then id else writer_of old Local)
+    → MayInsert new s n more id lane j
+come-flushed old new s n more id lane j global local may o slots eg el = record {
+  has = record { holds = o.holds; spare = o.spare };
+  fits = may.fits;
+  low = may.low;
+  within = let w = may.within in omega arith;
+  writers = (
+    writer-upto global (writer_of new Global) (writer_of old Global) id eg may.writers.0,
+    writer-upto local (writer_of new Local) (writer_of old Local) id el may.writers.1,
+  );
+  apart = may.apart;
+}
+
+pub writes-in : (h : HeldLatches) (id v w : ℕ) (global local : Bool) → writer_of h Global ≡ (if global then id else v)
+    → writer_of h Local ≡ (if local then id else w) → WritesIn h id global local
+writes-in h id v w global local eg el = (λ e. eg ∙ ap (λ b. if b then id else v) e, λ e. el ∙ ap (λ b. if b then id else w) e)
+
+pub each-upto : (id : ℕ) (xs : List HeldLatch) → EachOf (λ x. x.by < id) xs → EachOf (λ x. x.by ≤ id) xs
+each-upto id [] h = tt
+each-upto id (x ∷ xs) h = (let low = h.0 in omega arith, each-upto id xs h.1)

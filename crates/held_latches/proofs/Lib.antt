@@ -1,6 +1,7 @@
 pub mod References
 pub mod Stocks
 pub mod Order
+pub mod Own
 pub mod Contents
 pub mod Flushes
 pub mod OneLatch

@@ -1,5 +1,5 @@
 -- A request with one latch, where nothing else is held: what the tests stand on.
-use Rattle.std.proofs.Common.{◌≡◌, ℕ, zero, suc, ◌≤◌, ◌&&◌, true, false, true≢false, Bool, cond, not, List, [], ◌∷◌}
+use Rattle.std.proofs.Common.{◌≡◌, ℕ, zero, suc, ◌≤◌, ◌&&◌, true, false, true≢false, Bool, not, List, [], ◌∷◌}
 use Rattle.std.proofs.Common.{length, slice_get, Some, ap, sym, refl, subst, arith, inl}
 use Rattle.span_key.specs.Scopes.{scope_if, scope_of}
 use Rattle.span_key.specs.Spans.{is_local}
@@ -10,9 +10,10 @@ use Rattle.latch_model.specs.Latches.{at_normal, has_access, in_scope, reads, wr
 use Rattle.latch_model.specs.declared.latch.Access.{Access}
 use Rattle.latch_model.specs.declared.latch.Access.TheVariants.{Read, Write}
 use Rattle.latch_model.specs.declared.latch.Latch.{Latch}
+use Rattle.latch_shots.specs.Held.{others}
 use Rattle.held_latches.specs.Content.{EachOf, IsIn}
 use Rattle.held_latches.specs.Holding.{HasSpare, HoldsOwn, InScopes, MayInsert, own_latch, slots_of, writer_of}
-use Rattle.held_latches.specs.Lists.{capture, inserted, no_lists, others, own_from, taken_if, with_held, with_if, without_by}
+use Rattle.held_latches.specs.Lists.{capture, inserted, no_lists, own_from, taken_if, with_held, with_if, without_by}
 use Rattle.held_latches.specs.Taking.{IsOwn, OnlyOwn}
 use Rattle.held_latches.specs.declared.held.HeldLatches.{HeldLatches}
 use Rattle.held_latches.proofs.Inserting.{is-in}
@@ -43,18 +44,14 @@ none-in-scopes = record {
   local = (λ k d low. absurd (none-below k low), λ k d low. absurd (none-below k low));
 }
 
-pub writer-low : (b : Bool) (v w : ℕ) → v ≡ 0 → w ≡ (cond b 1 v) → w ≤ 1
-writer-low true v w z e = omega arith
-writer-low false v w z e = omega arith
-
-pub may-come : (h : HeldLatches) (ls : List Latch) → HasSpare h no_lists 1 64 → slots_of h ≡ 16 → writer_of h Global ≤ 1 → writer_of h Local ≤ 1
-    → length ls ≡ 1 → MayInsert h no_lists 1 51 1 0 (length ls)
+pub may-come : (h : HeldLatches) (ls : List Latch) → HasSpare h no_lists 0 64 → slots_of h ≡ 16 → writer_of h Global ≡ 0 → writer_of h Local ≡ 0
+    → length ls ≡ 1 → MayInsert h no_lists 0 51 1 0 (length ls)
 may-come h ls s slots g l one = record {
   has = record { holds = s.holds; spare = let a = s.spare in omega arith };
   fits = omega arith;
   low = omega arith;
   within = omega arith;
-  writers = (g, l);
+  writers = (omega arith, omega arith);
   apart = (tt, tt, tt, tt);
 }
 

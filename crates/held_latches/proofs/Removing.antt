@@ -15,7 +15,8 @@ use Rattle.latch_model.specs.declared.latch.Latch.{Latch}
 use Rattle.latch_item.specs.Items.{Item}
 use Rattle.held_latches.specs.Content.{AllApart, Content, EachOf, IsIn, held_of, is_other, items_in, read_items}
 use Rattle.held_latches.specs.Holding.{HasSpare, Holds, HoldsOwn, later_or_other, own_latch, without_below}
-use Rattle.held_latches.specs.Lists.{others, without_by}
+use Rattle.latch_shots.specs.Held.{others}
+use Rattle.held_latches.specs.Lists.{without_by}
 use Rattle.held_latches.specs.Scopes.{Around, ScopeHas, aside_of, many_of}
 use Rattle.held_latches.specs.Steps.{SamePool, free_rows}
 use Rattle.held_latches.specs.Taking.{IsOwn, OnlyOwn, StandsIn, Taken, without_if, without_place}

@@ -85,6 +85,10 @@ abbrev pub writer_of : HeldLatches → Scope → ℕ
 writer_of h Global = h.global.writer
 writer_of h Local = h.local.writer
 
+-- The request of this number is the last that declared a write in each scope where it did.
+abbrev pub WritesIn : HeldLatches → ℕ → Bool → Bool → Type 0
+WritesIn h id global local = (global ≡ true → writer_of h Global ≡ id) × (local ≡ true → writer_of h Local ≡ id)
+
 -- how many rows the pool has, how many rows are free and not set aside, and how many latches the table has places for
 abbrev pub size_of : HeldLatches → ℕ
 size_of h = h.pool.seat.view.size

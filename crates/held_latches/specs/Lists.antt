@@ -1,11 +1,11 @@
 -- The held latches in four lists, and what a capture, a begin and an end do to them.
-use Rattle.std.specs.Prelude.{ℕ, ◌+◌, ◌==◌, not, ◌&&◌, if◌then◌else◌, Bool, List, [], ◌∷◌, length}
-use Rattle.std.specs.List.{filter}
+use Rattle.std.specs.Prelude.{ℕ, ◌+◌, ◌&&◌, if◌then◌else◌, Bool, List, [], ◌∷◌, length}
 use Rattle.span_key.specs.declared.scopes.Scope.TheVariants.{Global, Local}
 use Rattle.latch_model.specs.Histories.{HeldLatch, Snapshot, captures, with_latch}
 use Rattle.latch_model.specs.Latches.{at_normal, has_access, in_scope}
 use Rattle.latch_model.specs.declared.latch.Access.TheVariants.{Read, Write}
 use Rattle.latch_model.specs.declared.latch.Latch.{Latch}
+use Rattle.latch_shots.specs.Held.{others}
 
 abbrev pub no_lists : Snapshot
 no_lists = record { global_reads = []; global_writes = []; local_reads = []; local_writes = [] }
@@ -46,9 +46,6 @@ inserted [] s = s
 inserted (x ∷ xs) s = with_held x (inserted xs s)
 
 -- the lists without the latches of one request
-abbrev pub others : ℕ → List HeldLatch → List HeldLatch
-others id xs = filter (λ x. not (x.by == id)) xs
-
 abbrev pub without_by : ℕ → Snapshot → Snapshot
 without_by id s = record {
   global_reads = others id s.global_reads;

@@ -9,8 +9,9 @@ ghost use Rattle.row_pool.specs.Trees.{Tree as Row};
 ghost use Rattle.latch_shots.specs.Roots.{Root};
 ghost use Rattle.latch_shots.specs.Shots.{AreShots, table_of};
 ghost use Rattle.latch_shots.specs.Shown.{root_of as shot_root};
-ghost use Rattle.held_latches.specs.Holding.{EachHeld, HasSpare, Holds, HoldsFlushed, InScopes, SameSizes, SameWriters, table_of as held_table, writer_of};
-ghost use Rattle.held_latches.specs.Lists.{capture, shown_if};
+ghost use Rattle.held_latches.specs.Holding.{EachHeld, HasSpare, Holds, HoldsFlushed, InScopes, MayInsert, SameSizes, SameWriters};
+ghost use Rattle.held_latches.specs.Holding.{WritesIn, table_of as held_table, writer_of};
+ghost use Rattle.held_latches.specs.Lists.{capture, inserted, own_from, shown_if, without_by};
 ghost use Rattle.held_latches.specs.Steps.{CanShow, PoolHas, SamePool, SameRows};
 ghost use Rattle.held_latches.specs.Stock.{Placed, tree_root, with_row};
 
@@ -126,22 +127,24 @@ impl HeldLatches {
         self.flush_local(rows, id, local);
     }
 
-    // Shots of the trees that are wanted, with a seat of their own.
+    // Shots of the trees that are wanted, with a seat of their own, for the request of this number: it began last, and its own latches don't count.
     fn take_shots(
         &mut self,
         rows: &Rows,
+        id: u64,
         global: bool,
         global_write: bool,
         local: bool,
         local_write: bool,
     ) -> Shots
         requires table { held_table self.old ≡ rows.now }
-        requires holds { (s : Snapshot) × (n : ℕ) × (k : ℕ) × HoldsFlushed self.old s n k global_write local_write × (n < 65536) }
+        requires holds { (held : Snapshot) × (n : ℕ) × (k : ℕ) × HasSpare self.old held n k × (n < 65536) }
         ensures table { SameSizes self.old self.new }
         ensures shots_table { table_of result ≡ held_table self.old }
-        ensures holds { (s : Snapshot) (n k : ℕ) → HoldsFlushed self.old s n k global_write local_write → n < 65536 → HasSpare self.new s (suc n) k }
+        ensures holds { (held : Snapshot) (n k : ℕ) → HasSpare self.old held n k → n < 65536 → HasSpare self.new held (suc n) k }
         ensures writers { SameWriters self.old self.new }
-        ensures shots { (s : Snapshot) (n k : ℕ) → HoldsFlushed self.old s n k global_write local_write → n < 65536 → InScopes s
+        ensures shots { (held s : Snapshot) (n k : ℕ) → HasSpare self.old held n k → n < 65536 → EachHeld (λ x. x.by ≤ id) held
+            → WritesIn self.old id global_write local_write → without_by id held ≡ s → InScopes s
             → AreShots result (shown_if global global_write local local_write s) }
     {
         self.pool.seat.known();
@@ -155,26 +158,46 @@ impl HeldLatches {
         let three = add_root(&mut roots, two, &local_reads);
         let all = add_root(&mut roots, three, &local_writes);
         let seat = self.pool.split(rows, &roots[..all]);
-        Shots::new(seat, global_reads, global_writes, local_reads, local_writes)
+        Shots::new(
+            seat,
+            id,
+            global_reads,
+            global_writes,
+            local_reads,
+            local_writes,
+        )
     }
 
-    /// What a request of this number with these latches captures, in shots. The pending reads of each scope where it writes go into the tree first.
-    pub fn capture(&mut self, rows: &Rows, id: u64, latches: &[Latch]) -> Shots
+    /// A request of this number begins, in this lane. It captures what is held, in shots, and holds its own latches from now on; these are all of `latches`, or
+    /// none. 13 rows for each of its own are free, and no others are used.
+    ///
+    /// The pending reads of each scope where it writes go into the tree first, then its own latches come, and the shots are taken last, so that no shot of its
+    /// own has it copy a node. What it captured is what its shots show but for its own latches.
+    pub fn begin(
+        &mut self,
+        rows: &Rows,
+        id: u64,
+        lane: u32,
+        latches: &[Latch],
+        own: &[Latch],
+    ) -> Shots
         requires table { held_table self.old ≡ rows.now }
-        requires holds { (s : Snapshot) × (n : ℕ) × Holds self.old s n × EachHeld (λ x. x.by < id) s × (n < 65536) }
+        requires may { (s : Snapshot) × (n more : ℕ) × MayInsert self.old s n more id lane (length own.now) × EachHeld (λ x. x.by < id) s × (n < 65536) }
         ensures table { SameSizes self.old self.new }
         ensures shots_table { table_of result ≡ held_table self.old }
-        ensures holds { (s : Snapshot) (n k : ℕ) → HasSpare self.old s n k → EachHeld (λ x. x.by < id) s → n < 65536 → HasSpare self.new s (suc n) k }
+        ensures holds { (s : Snapshot) (n more : ℕ) → MayInsert self.old s n more id lane (length own.now) → EachHeld (λ x. x.by < id) s → n < 65536
+            → HasSpare self.new (inserted (own_from id lane 0 own.now) s) (suc n) more }
         ensures writers { (writer_of self.new Global ≡ (if captures latches.now Global Read then id else writer_of self.old Global))
             × (writer_of self.new Local ≡ (if captures latches.now Local Read then id else writer_of self.old Local)) }
-        ensures shots { (s : Snapshot) (n : ℕ) → Holds self.old s n → EachHeld (λ x. x.by < id) s → n < 65536 → InScopes s
-            → AreShots result (capture latches.now s) }
+        ensures shots { (s : Snapshot) (n more : ℕ) → MayInsert self.old s n more id lane (length own.now) → EachHeld (λ x. x.by < id) s → n < 65536
+            → InScopes s → AreShots result (capture latches.now s) }
     {
         let global = has_any(latches, Scope::Global);
         let global_write = has_write(latches, Scope::Global);
         let local = has_any(latches, Scope::Local);
         let local_write = has_write(latches, Scope::Local);
         self.flush(rows, id, global_write, local_write);
-        self.take_shots(rows, global, global_write, local, local_write)
+        self.insert(rows, id, lane, own);
+        self.take_shots(rows, id, global, global_write, local, local_write)
     }
 }

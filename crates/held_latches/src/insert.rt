@@ -94,8 +94,8 @@ impl HeldLatches {
         }
     }
 
-    /// The latches of a request are held from now on, under the request's number and in its lane. 13 rows a latch are free for them, and no others are used.
-    pub fn insert(&mut self, rows: &Rows, id: u64, lane: u32, latches: &[Latch])
+    // The latches of a request are held from now on, under the request's number and in its lane. 13 rows a latch are free for them, and no others are used.
+    pub(crate) fn insert(&mut self, rows: &Rows, id: u64, lane: u32, latches: &[Latch])
         requires table { table_of self.old ≡ rows.now }
         requires may { (s : Snapshot) × (n more : ℕ) × MayInsert self.old s n more id lane (length latches.now) }
         ensures table { SameSizes self.old self.new }

@@ -39,9 +39,7 @@ fn begin(held: &mut HeldLatches, rows: &Rows, latches: &[Latch]) -> Shots
     ensures shots { (shots_table result ≡ rows.now) × AreShots result no_lists }
     ensures held { HasSpare held.new (inserted (own_from 1 0 0 latches.now) no_lists) 1 51 }
 {
-    let shots = held.capture(rows, 1, latches);
-    held.insert(rows, 1, 0, latches);
-    shots
+    held.begin(rows, 1, 0, latches, latches)
 }
 
 /// It ends.

@@ -1,5 +1,5 @@
 -- What a begin finds and leaves, where what is held is what the history says.
-use Rattle.std.proofs.Common.{◌≡◌, ℕ, suc, ◌+◌, ◌-◌, ◌*◌, ◌<◌, ◌≤◌, ◌==◌, Bool, true, false, cond, List, [], ◌∷◌, ◌++◌, length, refl, sym}
+use Rattle.std.proofs.Common.{◌≡◌, ℕ, suc, ◌+◌, ◌-◌, ◌*◌, ◌<◌, ◌≤◌, ◌==◌, true, false, cond, List, [], ◌∷◌, ◌++◌, length, refl, sym}
 use Rattle.std.proofs.Common.{◌∙◌, ap, subst, inl, true≢false, arith}
 use Rattle.std.proofs.Math.Seq.{take-append_seam}
 use Rattle.std.proofs.lemmas.Bool.{eq-eqb}
@@ -36,10 +36,6 @@ use Rattle.history_latches.proofs.Own.{at_begin, hold_upto, length_hold}
 use Rattle.history_latches.proofs.Requests.{number_begun, of_request, open_begun, open_few}
 use Rattle.history_latches.proofs.Spare.{needed_spare}
 use Rattle.history_latches.proofs.Writers.{writer_begun, writer_upto}
-
-writer_low : (t : Bool) (v w n : ℕ) → v ≡ cond t n w → w ≤ n → v ≤ n
-writer_low true v w n e le = omega arith
-writer_low false v w n e le = omega arith
 
 -- the writers of the scopes where the request captured
 abbrev pub Captured : HeldLatches → HeldLatches → ℕ → List Latch → Type 0
@@ -100,11 +96,9 @@ module _ (h : HistoryLatches) (log : List Entry) (sizes : Sizes) (b : Begin) (ma
       })
 
   -- ---- its latches can come, where there are rows for them
-  own_insert : (k : HeldLatches) (more : ℕ) →
-      HasSpare k (lists_in log) (suc (length (open_begins log))) (13 * length (to_hold b.mode b.request.latches) + more) →
-      slots_of k ≡ slots_of h.held → Captured h.held k b.id b.request.latches →
-      MayInsert k (lists_in log) (suc (length (open_begins log))) more b.id b.lane (length (to_hold b.mode b.request.latches))
-  own_insert k more spare slots writers = record {
+  own_insert : (more : ℕ) → HasSpare h.held (lists_in log) (length (open_begins log)) (13 * length (to_hold b.mode b.request.latches) + more) →
+      MayInsert h.held (lists_in log) (length (open_begins log)) more b.id b.lane (length (to_hold b.mode b.request.latches))
+  own_insert more spare = record {
     has = spare;
     fits =
         let all = total_is (latches_held log) in
@@ -118,27 +112,24 @@ module _ (h : HistoryLatches) (log : List Entry) (sizes : Sizes) (b : Begin) (ma
     apart = all_beside (length (to_hold b.mode b.request.latches));
   }
     where
-      low : (scope : Scope) → writer_of k scope ≤ b.id
+      low : (scope : Scope) → writer_of h.held scope ≤ b.id
       low scope =
           let last = writer_upto scope (begins log) (length (begins log)) (number_begun log sizes before) in
           let is = may.keeps.writers scope in
           let number = can.number in
-          writer_low (writes_in scope b) (writer_of k scope) (writer_of h.held scope) b.id (writers scope) (omega arith)
+          omega arith
 
-  -- behind the capture, and so many rows are left as aren't needed
-  pub can_insert : (id lane : ℕ) (ls : List Latch) (mode : Mode) → IsBeginOf b id lane ls mode → (k : HeldLatches) (own : List Latch) → own ≡ to_hold mode ls →
+  -- so many rows are left as aren't needed
+  pub can_insert : (id lane : ℕ) (ls : List Latch) (mode : Mode) → IsBeginOf b id lane ls mode → (own : List Latch) → own ≡ to_hold mode ls →
       13 * length (to_hold mode ls) ≤ free_of h.held →
-      ((m : ℕ) → HasSpare h.held (lists_in log) (length (open_begins log)) m → HasSpare k (lists_in log) (suc (length (open_begins log))) m) →
-      slots_of k ≡ slots_of h.held → Captured h.held k id ls →
-      MayInsert k (lists_in log) (suc (length (open_begins log))) (free_of h.held - 13 * length (to_hold mode ls)) id lane (length own)
-  can_insert id lane ls mode is k own same enough captured slots writers =
-      subst (λ (xs : List Latch).
-      MayInsert k (lists_in log) (suc (length (open_begins log))) (free_of h.held - 13 * length (to_hold mode ls)) id lane (length xs)) (sym same)
-      (at_begin (λ i l xs m. (more : ℕ) → HasSpare k (lists_in log) (suc (length (open_begins log))) (13 * length (to_hold m xs) + more) →
-      Captured h.held k i xs → MayInsert k (lists_in log) (suc (length (open_begins log))) more i l (length (to_hold m xs))) b id lane ls mode is
-      (λ more spare from. own_insert k more spare slots from) (free_of h.held - 13 * length (to_hold mode ls))
-      (captured (13 * length (to_hold mode ls) + (free_of h.held - 13 * length (to_hold mode ls)))
-      (needed_spare h.held (lists_in log) (length (open_begins log)) (13 * length (to_hold mode ls)) may.keeps.holds enough)) writers)
+      MayInsert h.held (lists_in log) (length (open_begins log)) (free_of h.held - 13 * length (to_hold mode ls)) id lane (length own)
+  can_insert id lane ls mode is own same enough =
+      subst (λ (xs : List Latch). MayInsert h.held (lists_in log) (length (open_begins log)) (free_of h.held - 13 * length (to_hold mode ls)) id lane
+      (length xs)) (sym same)
+      (at_begin (λ i l xs m. (more : ℕ) → HasSpare h.held (lists_in log) (length (open_begins log)) (13 * length (to_hold m xs) + more) →
+      MayInsert h.held (lists_in log) (length (open_begins log)) more i l (length (to_hold m xs))) b id lane ls mode is
+      own_insert (free_of h.held - 13 * length (to_hold mode ls))
+      (needed_spare h.held (lists_in log) (length (open_begins log)) (13 * length (to_hold mode ls)) may.keeps.holds enough))
 
   -- ---- what is held then is what the history says with the begin
   own_keeps : (k : HistoryLatches) →

@@ -15,7 +15,8 @@ use Rattle.latch_model.specs.declared.latch.Access.TheVariants.{Read, Write}
 use Rattle.latch_model.proofs.Counting.{open_begins-ended}
 use Rattle.latch_model.proofs.Elements.{Each, filter-filter, filter-map}
 use Rattle.latch_model.proofs.SnapshotOrder.{filter-in_order}
-use Rattle.held_latches.specs.Lists.{others, without_by}
+use Rattle.latch_shots.specs.Held.{others}
+use Rattle.held_latches.specs.Lists.{without_by}
 use Rattle.history_latches.specs.Lists.{listed_in, lists_of}
 use Rattle.history_latches.proofs.Listing.{is_of}
 use Rattle.history_latches.proofs.Requests.{by_all}

@@ -47,9 +47,8 @@ impl HistoryLatches {
             → AreShots result (shot (log ++ entry_of b ∷ []) b.id) }
         ensures free { free_of self.old ≤ free_of self.new + 13 * length (to_hold mode latches.now) }
     {
-        let shots = self.held.capture(rows, id, latches);
-        self.held.insert(rows, id, lane, to_hold(mode, latches));
-        shots
+        self.held
+            .begin(rows, id, lane, latches, to_hold(mode, latches))
     }
 
     /// The open request of this number ends. What it captured comes back, closed, and it holds nothing any more. No row is used.

@@ -1,5 +1,5 @@
 -- What a latch meets of the items of a list.
-use Rattle.std.proofs.Common.{◌≡◌, Bool, true, false, not, cond, ◌&&◌, ◌||◌, if◌then◌else◌, List, [], ◌∷◌, ◌++◌, refl, sym, ap, ◌∙◌, subst}
+use Rattle.std.proofs.Common.{◌≡◌, ℕ, ◌==◌, Bool, true, false, not, cond, ◌&&◌, ◌||◌, if◌then◌else◌, List, [], ◌∷◌, ◌++◌, refl, sym, ap, ◌∙◌, subst}
 use Rattle.std.specs.List.{All, filter}
 use Rattle.std.proofs.lemmas.List.Elements.{All-head, All-tail, All-weaker}
 use Rattle.hlc_stamp.specs.Stamps.{empty_stamp, is_empty_stamp}
@@ -17,8 +17,8 @@ use Rattle.row_pool.specs.Views.{ViewInvariant}
 use Rattle.latch_item.specs.Items.{item_of}
 use Rattle.latch_item.specs.Shape.{Refers}
 use Rattle.overlap_iter.specs.Overlaps.{found}
-use Rattle.latch_shots.specs.Held.{held_as, held_in}
-use Rattle.latch_shots.specs.Met.{stamps_meet}
+use Rattle.latch_shots.specs.Held.{held_as, held_in, others}
+use Rattle.latch_shots.specs.Met.{counts, stamps_meet}
 use Rattle.latch_shots.specs.Roots.{AreRoots, Root}
 use Rattle.latch_shots.specs.Shots.{Content, ShowsSnapshot, shot_of}
 use Rattle.latch_shots.specs.Shown.{root_of}
@@ -63,36 +63,55 @@ conflict-is l x e = subst
     (in_one (local l) l.access x.latch.access l.stamp x.latch.stamp (key_lt l.span.0 (past x.latch.span)) (key_lt x.latch.span.0 (past l.span)))
 
 -- ---- a list
--- those of a list that conflict with a latch of their scope are those whose spans overlap and whose stamps meet
-pub conflicting-is : (l : Latch) (a : Access) (xs : List Tree) → All (λ (x : HeldLatch). local x.latch ≡ local l) (held_in a xs)
-    → filter (λ x. conflict l x.latch) (held_in a xs) ≡ meeting l a (found l.span xs)
-conflicting-is l a [] all = refl
-conflicting-is l a (x ∷ xs) all =
-    let P = λ (y : HeldLatch). local y.latch ≡ local l in
-    let y : HeldLatch = held_as a (item_of x) in
-    let ys : List HeldLatch = filter (λ z. conflict l z.latch) (held_in a xs) in
-    let here = conflict-is l y (All-head P y (held_in a xs) all) in
-    ap (λ b. cond b (y ∷ ys) ys) here ∙ ap (λ zs. cond (overlap y.latch.span l.span && stamps_meet l y) (y ∷ zs) zs)
-    (conflicting-is l a xs (All-tail P y (held_in a xs) all)) ∙ by (overlap y.latch.span l.span)
+-- what a test keeps of a list that begins with an item or doesn't
+kept-if : (p : HeldLatch → Bool) (a : Access) (x : Tree) (xs : List Tree) (o : Bool)
+    → filter p (held_in a (cond o (x ∷ xs) xs)) ≡ cond o (filter p (held_in a (x ∷ xs))) (filter p (held_in a xs))
+kept-if p a x xs true = refl
+kept-if p a x xs false = refl
+
+-- one held latch in front of those that were looked at, where it is the request's own and where it isn't
+conflicting-step : (l : Latch) (y : HeldLatch) (rest more : List HeldLatch) (is_own : Bool)
+    → All (λ (x : HeldLatch). local x.latch ≡ local l) (cond (not is_own) (y ∷ rest) rest)
+    → (All (λ (x : HeldLatch). local x.latch ≡ local l) rest → filter (λ x. conflict l x.latch) rest ≡ more)
+    → filter (λ x. conflict l x.latch) (cond (not is_own) (y ∷ rest) rest)
+    ≡ cond (overlap y.latch.span l.span) (cond (not is_own && stamps_meet l y) (y ∷ more) more) more
+conflicting-step l y rest more true each behind = behind each ∙ same (overlap y.latch.span l.span)
   where
-    by : (o : Bool) → cond (o && stamps_meet l (held_as a (item_of x))) (held_as a (item_of x) ∷ meeting l a (found l.span xs)) (meeting l a (found l.span xs))
-        ≡ meeting l a (cond o (x ∷ found l.span xs) (found l.span xs))
-    by true = refl
-    by false = refl
+    same : (o : Bool) → more ≡ cond o more more
+    same true = refl
+    same false = refl
+conflicting-step l y rest more false each behind =
+    let P = λ (x : HeldLatch). local x.latch ≡ local l in let later = filter (λ x. conflict l x.latch) rest in
+    ap (λ b. cond b (y ∷ later) later) (conflict-is l y (All-head P y rest each))
+    ∙ (ap (λ zs. cond (overlap y.latch.span l.span && stamps_meet l y) (y ∷ zs) zs) (behind (All-tail P y rest each))
+    ∙ both (overlap y.latch.span l.span) (stamps_meet l y))
+  where
+    both : (o m : Bool) → cond (o && m) (y ∷ more) more ≡ cond o (cond m (y ∷ more) more) more
+    both true m = refl
+    both false m = refl
+
+-- those of others in a list that conflict with a latch of their scope are those whose spans overlap and whose stamps meet
+pub conflicting-is : (own : ℕ) (l : Latch) (a : Access) (xs : List Tree) → All (λ (x : HeldLatch). local x.latch ≡ local l) (others own (held_in a xs))
+    → filter (λ x. conflict l x.latch) (others own (held_in a xs)) ≡ meeting own l a (found l.span xs)
+conflicting-is own l a [] each = refl
+conflicting-is own l a (x ∷ xs) each =
+    let y : HeldLatch = held_as a (item_of x) in
+    conflicting-step l y (others own (held_in a xs)) (meeting own l a (found l.span xs)) (y.by == own) each (conflicting-is own l a xs)
+    ∙ sym (kept-if (counts own l) a x (found l.span xs) (overlap y.latch.span l.span))
 
 -- ---- the lists of a snapshot
 -- the items of the list of this access in the scope of a latch
 pub record Listed (c : Content) (s : Snapshot) (l : Latch) (a : Access) : Type 0 where
   pub items : List Tree
   pub refers : Refers c.view (shot_of c (scope_of l.span) a) items
-  pub is : list_of s (scope_of l.span) a ≡ held_in a items
+  pub is : list_of s (scope_of l.span) a ≡ others c.own (held_in a items)
   pub one_scope : All (λ (x : HeldLatch). local x.latch ≡ local l) (list_of s (scope_of l.span) a)
 
 -- the same of a scope
 record ListedIn (c : Content) (s : Snapshot) (b : Bool) (a : Access) : Type 0 where
   items : List Tree
   refers : Refers c.view (shot_of c (scope_if b) a) items
-  is : list_of s (scope_if b) a ≡ held_in a items
+  is : list_of s (scope_if b) a ≡ others c.own (held_in a items)
   one_scope : All (λ (x : HeldLatch). local x.latch ≡ b) (list_of s (scope_if b) a)
 
 not_true : (b : Bool) → not b ≡ true → b ≡ false
@@ -150,16 +169,16 @@ listed c s l a sound h = let o = listed_in c s (local l) a sound h in record { i
 
 -- what a latch meets of such a list
 pub met-listed : (c : Content) (s : Snapshot) (l : Latch) (a : Access) → (o : Listed c s l a)
-    → filter (λ x. conflict l x.latch) (list_of s (scope_of l.span) a) ≡ meeting l a (found l.span o.items)
+    → filter (λ x. conflict l x.latch) (list_of s (scope_of l.span) a) ≡ meeting c.own l a (found l.span o.items)
 met-listed c s l a o =
     ap (filter (λ x. conflict l x.latch)) o.is
-    ∙ conflicting-is l a o.items (subst (λ xs. All (λ (x : HeldLatch). local x.latch ≡ local l) xs) o.is o.one_scope)
+    ∙ conflicting-is c.own l a o.items (subst (λ xs. All (λ (x : HeldLatch). local x.latch ≡ local l) xs) o.is o.one_scope)
 
 -- what it meets at all: of the writes first, and then, where it writes, of the reads
 pub record MetParts (c : Content) (s : Snapshot) (l : Latch) (xs : List Tree) : Type 0 where
   pub later : List HeldLatch
   pub behind : MeetsBehind Write l.access c l later
-  pub all : met_by s l ≡ meeting l Write (found l.span xs) ++ later
+  pub all : met_by s l ≡ meeting c.own l Write (found l.span xs) ++ later
 
 pub met-parts : (c : Content) (s : Snapshot) (l : Latch) → ViewInvariant c.view → ShowsSnapshot c s → (o : Listed c s l Write) → MetParts c s l o.items
 met-parts c s l sound h o = record {

@@ -39,7 +39,7 @@ stand-split_none p s n c ts rs h table move = record {
 abbrev pub no_root : Shot
 no_root = record { root = None; height = 0 }
 
-pub shown-nothing : (v w : SeatView) → w ≡ split_off [] v → v.out ≡ [] → Show w no_root no_root no_root no_root nothing
+pub shown-nothing : (v w : SeatView) → w ≡ split_off [] v → v.out ≡ [] → Show w 1 no_root no_root no_root no_root nothing
 shown-nothing v w move out = record {
   split_off = (let two : w.number ≡ 2 = ap (λ (u : SeatView). u.number) move ∙ ap next_number out in omega arith);
   alone = ap (λ (u : SeatView). u.owned) move;

@@ -19,7 +19,7 @@ use Rattle.overlap_iter.specs.Overlaps.{found}
 use Rattle.overlap_iter.specs.Walks.{Came, WalksWithin, root_of}
 use Rattle.overlap_iter.specs.declared.cursor.Cursor.{Cursor}
 use Rattle.latch_shots.specs.Held.{held_as}
-use Rattle.latch_shots.specs.Met.{IsMet, stamps_meet}
+use Rattle.latch_shots.specs.Met.{IsMet, counts}
 use Rattle.latch_shots.specs.Shots.{Content, ShowsSnapshot, shot_of}
 use Rattle.latch_shots.specs.Walks.{Among, MeetsBehind, MeetsIn, MeetsReads, meeting}
 use Rattle.latch_shots.specs.declared.met.MetLatch.{MetLatch}
@@ -37,16 +37,16 @@ among-first v w shot span c xs n m k same o walks = subst (λ z. Among z c span 
 })
 
 -- an item that is passed
-pub meeting-past : (l : Latch) (a : Access) (todo : List Tree) (x : Tree) (rest : List Tree) → todo ≡ x ∷ rest
-    → stamps_meet l (held_as a (item_of x)) ≡ false → meeting l a todo ≡ meeting l a rest
-meeting-past l a todo x rest e apart =
-    ap (meeting l a) e ∙ ap (λ b. cond b (held_as a (item_of x) ∷ meeting l a rest) (meeting l a rest)) apart
+pub meeting-past : (own : ℕ) (l : Latch) (a : Access) (todo : List Tree) (x : Tree) (rest : List Tree) → todo ≡ x ∷ rest
+    → counts own l (held_as a (item_of x)) ≡ false → meeting own l a todo ≡ meeting own l a rest
+meeting-past own l a todo x rest e apart =
+    ap (meeting own l a) e ∙ ap (λ b. cond b (held_as a (item_of x) ∷ meeting own l a rest) (meeting own l a rest)) apart
 
 -- an item that is met
-pub meeting-next : (l : Latch) (a : Access) (todo : List Tree) (x : Tree) (rest : List Tree) → todo ≡ x ∷ rest
-    → stamps_meet l (held_as a (item_of x)) ≡ true → meeting l a todo ≡ held_as a (item_of x) ∷ meeting l a rest
-meeting-next l a todo x rest e meets =
-    ap (meeting l a) e ∙ ap (λ b. cond b (held_as a (item_of x) ∷ meeting l a rest) (meeting l a rest)) meets
+pub meeting-next : (own : ℕ) (l : Latch) (a : Access) (todo : List Tree) (x : Tree) (rest : List Tree) → todo ≡ x ∷ rest
+    → counts own l (held_as a (item_of x)) ≡ true → meeting own l a todo ≡ held_as a (item_of x) ∷ meeting own l a rest
+meeting-next own l a todo x rest e meets =
+    ap (meeting own l a) e ∙ ap (λ b. cond b (held_as a (item_of x) ∷ meeting own l a rest) (meeting own l a rest)) meets
 
 -- the walk over what a latch meets begins among the writes
 pub meets-begin : (b d : Content) (s : Snapshot) (l : Latch) (shot : Shot) (c : Cursor) (n m : ℕ) (k : List Tree → ℕ) → ViewInvariant b.view
@@ -93,32 +93,32 @@ among-end v w c d span todo n m a same o =
     record { root = a.root; work = o.work; reached = root-stays v w a.root same a.reached; walks = o.walks }
 
 -- what the walk met of the items xs, where the cursor has come to the items ys of them
-pub met-next : (l : Latch) (a b : Access) (xs ys rest : List Tree) (x : Tree) → b ≡ a → meeting l a xs ≡ meeting l a ys → ys ≡ x ∷ rest
-    → stamps_meet l (held_as b (item_of x)) ≡ true → meeting l a xs ≡ held_as b (item_of x) ∷ meeting l a rest
-met-next l a b xs ys rest x same so_far e meets = so_far
-    ∙ subst (λ z. meeting l a ys ≡ held_as z (item_of x) ∷ meeting l a rest) (sym same)
-    (meeting-next l a ys x rest e (subst (λ z. stamps_meet l (held_as z (item_of x)) ≡ true) same meets))
+pub met-next : (own : ℕ) (l : Latch) (a b : Access) (xs ys rest : List Tree) (x : Tree) → b ≡ a → meeting own l a xs ≡ meeting own l a ys → ys ≡ x ∷ rest
+    → counts own l (held_as b (item_of x)) ≡ true → meeting own l a xs ≡ held_as b (item_of x) ∷ meeting own l a rest
+met-next own l a b xs ys rest x same so_far e meets = so_far
+    ∙ subst (λ z. meeting own l a ys ≡ held_as z (item_of x) ∷ meeting own l a rest) (sym same)
+    (meeting-next own l a ys x rest e (subst (λ z. counts own l (held_as z (item_of x)) ≡ true) same meets))
 
-pub met-past : (l : Latch) (a b : Access) (xs ys rest : List Tree) (x : Tree) → b ≡ a → meeting l a xs ≡ meeting l a ys → ys ≡ x ∷ rest
-    → stamps_meet l (held_as b (item_of x)) ≡ false → meeting l a xs ≡ meeting l a rest
-met-past l a b xs ys rest x same so_far e apart =
-    so_far ∙ meeting-past l a ys x rest e (subst (λ z. stamps_meet l (held_as z (item_of x)) ≡ false) same apart)
+pub met-past : (own : ℕ) (l : Latch) (a b : Access) (xs ys rest : List Tree) (x : Tree) → b ≡ a → meeting own l a xs ≡ meeting own l a ys → ys ≡ x ∷ rest
+    → counts own l (held_as b (item_of x)) ≡ false → meeting own l a xs ≡ meeting own l a rest
+met-past own l a b xs ys rest x same so_far e apart =
+    so_far ∙ meeting-past own l a ys x rest e (subst (λ z. counts own l (held_as z (item_of x)) ≡ false) same apart)
 
 -- ---- the walk as a whole
 -- what is left behind an item that was met
 pub meets-rest : (c d : Content) (w u : Walk) (l : Latch) (rest : List Tree) (later : List HeldLatch) → d ≡ c → u.access ≡ w.access
-    → MeetsBehind w.access l.access c l later → Among d.view u.cursor l.span rest → MeetsIn d u l (meeting l w.access rest ++ later)
+    → MeetsBehind w.access l.access c l later → Among d.view u.cursor l.span rest → MeetsIn d u l (meeting d.own l w.access rest ++ later)
 meets-rest c d w u l rest later same access behind among = record {
   items = rest;
   among = among;
   later = later;
   behind = subst (λ a. MeetsBehind a l.access d l later) (sym access) (subst (λ z. MeetsBehind w.access l.access z l later) (sym same) behind);
-  todo_is = ap (λ a. meeting l a rest ++ later) (sym access);
+  todo_is = ap (λ a. meeting d.own l a rest ++ later) (sym access);
 }
 
 -- where the writes are passed, the reads are left
 pub reads-left : (c d : Content) (w : Walk) (l : Latch) (todo : List HeldLatch) → d ≡ c → w.access ≡ Write → l.access ≡ Write → (h : MeetsIn c w l todo)
-    → meeting l w.access h.items ≡ [] → MeetsReads d l todo
+    → meeting c.own l w.access h.items ≡ [] → MeetsReads d l todo
 reads-left c d w l todo same among_writes own h none =
     let behind = subst (λ z. MeetsBehind Write z c l h.later) own (subst (λ z. MeetsBehind z l.access c l h.later) among_writes h.behind) in
     let all : todo ≡ h.later = h.todo_is ∙ ap (λ xs. xs ++ h.later) none in
@@ -126,9 +126,9 @@ reads-left c d w l todo same among_writes own h none =
 
 -- what the walk came to among the reads
 pub reads-next : (d : Content) (u : Walk) (l : Latch) (result : Option MetLatch) (todo : List HeldLatch) (xs : List Tree) → u.access ≡ Read
-    → todo ≡ meeting l Read xs
-    → MatchOption result ((meeting l Read xs ≡ []) × Among d.view u.cursor l.span [])
-    (λ m. (x : HeldLatch) × (rest : List Tree) × (meeting l Read xs ≡ x ∷ meeting l Read rest) × IsMet d.view m x × Among d.view u.cursor l.span rest)
+    → todo ≡ meeting d.own l Read xs
+    → MatchOption result ((meeting d.own l Read xs ≡ []) × Among d.view u.cursor l.span [])
+    (λ m. (x : HeldLatch) × (rest : List Tree) × (meeting d.own l Read xs ≡ x ∷ meeting d.own l Read rest) × IsMet d.view m x × Among d.view u.cursor l.span rest)
     → MatchOption result ((todo ≡ []) × MeetsIn d u l [])
     (λ m. (x : HeldLatch) × (rest : List HeldLatch) × (todo ≡ x ∷ rest) × IsMet d.view m x × MeetsIn d u l rest)
 reads-next d u l None todo xs access e (none, among) = (
@@ -143,7 +143,7 @@ reads-next d u l None todo xs access e (none, among) = (
 )
 reads-next d u l (Some m) todo xs access e (x, rest, next, met, among) = (
   x,
-  meeting l Read rest,
+  meeting d.own l Read rest,
   e ∙ next,
   met,
   record {
@@ -151,6 +151,6 @@ reads-next d u l (Some m) todo xs access e (x, rest, next, met, among) = (
     among = among;
     later = [];
     behind = subst (λ a. MeetsBehind a l.access d l []) (sym access) refl;
-    todo_is = sym (append-nil (meeting l u.access rest) ∙ ap (λ a. meeting l a rest) access);
+    todo_is = sym (append-nil (meeting d.own l u.access rest) ∙ ap (λ a. meeting d.own l a rest) access);
   },
 )

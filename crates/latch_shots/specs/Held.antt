@@ -1,5 +1,6 @@
 -- Held latches as items of trees.
-use Rattle.std.specs.Prelude.{List, map}
+use Rattle.std.specs.Prelude.{ℕ, ◌==◌, not, List, map}
+use Rattle.std.specs.List.{filter}
 use Rattle.latch_model.specs.Histories.{HeldLatch}
 use Rattle.latch_model.specs.declared.latch.Access.{Access}
 use Rattle.row_pool.specs.Trees.{Tree}
@@ -12,3 +13,7 @@ held_as access x = record { by = x.id; lane = x.lane; place = x.place; latch = r
 -- the held latches that a tree's items say
 abbrev pub held_in : Access → List Tree → List HeldLatch
 held_in access ts = map (λ t. held_as access (item_of t)) ts
+
+-- held latches but for those of one request
+abbrev pub others : ℕ → List HeldLatch → List HeldLatch
+others id xs = filter (λ x. not (x.by == id)) xs

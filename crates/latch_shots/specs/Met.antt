@@ -1,5 +1,5 @@
 -- Held latches that were met.
-use Rattle.std.specs.Prelude.{◌≡◌, Bool}
+use Rattle.std.specs.Prelude.{◌≡◌, ℕ, ◌==◌, ◌&&◌, not, Bool}
 use Rattle.latch_model.specs.Histories.{HeldLatch}
 use Rattle.latch_model.specs.Latches.{interfere, normal}
 use Rattle.latch_model.specs.declared.latch.Latch.{Latch}
@@ -11,6 +11,10 @@ use Rattle.latch_shots.specs.declared.met.MetLatch.{MetLatch}
 -- whether a latch and a held one, whose spans overlap and lie in one scope, get in each other's way by their accesses and stamps
 abbrev pub stamps_meet : Latch → HeldLatch → Bool
 stamps_meet l x = interfere l.access (normal l) x.latch.access x.latch.stamp
+
+-- whether it counts for a request of this number: it isn't the request's own, and they do
+abbrev pub counts : ℕ → Latch → HeldLatch → Bool
+counts own l x = not (x.by == own) && stamps_meet l x
 
 -- This held latch was met: whose it is, its place there, the lane, its stamp and its access are told, and its row says all of it.
 pub record IsMet (v : SeatView) (m : MetLatch) (x : HeldLatch) : Type 0 where

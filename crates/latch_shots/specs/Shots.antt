@@ -31,6 +31,7 @@ number_of shots = shots.seat.view.number
 pub record Content : Type 0 where
   pub table : TableId
   pub view : SeatView
+  pub own : ℕ
   pub global_reads : Shot
   pub global_writes : Shot
   pub local_reads : Shot
@@ -40,6 +41,7 @@ abbrev pub content_of : Shots → Content
 content_of shots = record {
   table = shots.seat.table;
   view = shots.seat.view;
+  own = shots.own;
   global_reads = shots.global_reads;
   global_writes = shots.global_writes;
   local_reads = shots.local_reads;
@@ -55,7 +57,7 @@ shot_of c Local Write = c.local_writes
 
 -- The shots show a snapshot.
 abbrev pub ShowsSnapshot : Content → Snapshot → Type 0
-ShowsSnapshot c s = Show c.view c.global_reads c.global_writes c.local_reads c.local_writes s
+ShowsSnapshot c s = Show c.view c.own c.global_reads c.global_writes c.local_reads c.local_writes s
 
 abbrev pub AreShots : Shots → Snapshot → Type 0
 AreShots shots s = ShowsSnapshot (content_of shots) s

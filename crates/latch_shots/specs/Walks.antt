@@ -14,14 +14,14 @@ use Rattle.overlap_iter.specs.Overlaps.{found}
 use Rattle.overlap_iter.specs.Walks.{HasRoot, Walks, steps_left}
 use Rattle.overlap_iter.specs.declared.cursor.Cursor.{Cursor}
 use Rattle.latch_shots.specs.Held.{held_in}
-use Rattle.latch_shots.specs.Met.{stamps_meet}
+use Rattle.latch_shots.specs.Met.{counts}
 use Rattle.latch_shots.specs.Shots.{Content, content_of, shot_of}
 use Rattle.latch_shots.specs.declared.shots.Shots.{Shots}
 use Rattle.latch_shots.specs.declared.walk.Walk.{Walk}
 
--- of the latches that items say, those whose stamps get in the way of a latch
-abbrev pub meeting : Latch → Access → List Tree → List HeldLatch
-meeting l access xs = filter (stamps_meet l) (held_in access xs)
+-- of the latches that items say, those of others than a request whose stamps get in the way of a latch
+abbrev pub meeting : ℕ → Latch → Access → List Tree → List HeldLatch
+meeting own l access xs = filter (counts own l) (held_in access xs)
 
 -- The cursor still comes to these items of a tree that the seat reaches.
 pub record Among (v : SeatView) (c : Cursor) (span : Pair) (xs : List Tree) : Type 0 where
@@ -32,7 +32,7 @@ pub record Among (v : SeatView) (c : Cursor) (span : Pair) (xs : List Tree) : Ty
 
 -- These are the reads that a latch meets.
 abbrev pub MeetsReads : Content → Latch → List HeldLatch → Type 0
-MeetsReads c l later = (xs : List Tree) × Refers c.view (shot_of c (scope_of l.span) Read) xs × (later ≡ meeting l Read (found l.span xs))
+MeetsReads c l later = (xs : List Tree) × Refers c.view (shot_of c (scope_of l.span) Read) xs × (later ≡ meeting c.own l Read (found l.span xs))
 
 -- What comes behind those of one access: behind the writes the reads, where the latch writes, and else nothing.
 abbrev pub MeetsBehind : Access → Access → Content → Latch → List HeldLatch → Type 0
@@ -46,7 +46,7 @@ pub record MeetsIn (c : Content) (w : Walk) (l : Latch) (todo : List HeldLatch) 
   pub among : Among c.view w.cursor l.span items
   pub later : List HeldLatch
   pub behind : MeetsBehind w.access l.access c l later
-  pub todo_is : todo ≡ meeting l w.access items ++ later
+  pub todo_is : todo ≡ meeting c.own l w.access items ++ later
 
 abbrev pub Meets : Shots → Walk → Latch → List HeldLatch → Type 0
 Meets shots w l todo = MeetsIn (content_of shots) w l todo

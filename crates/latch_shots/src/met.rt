@@ -4,7 +4,7 @@ ghost use Rattle.latch_model.specs.Histories.{HeldLatch};
 ghost use Rattle.latch_model.specs.Latches.{interfere, normal, read_meets_write};
 ghost use Rattle.latch_item.specs.Items.{Item, HasItem};
 ghost use Rattle.latch_shots.specs.Held.{held_as};
-ghost use Rattle.latch_shots.specs.Met.{IsMet, stamps_meet};
+ghost use Rattle.latch_shots.specs.Met.{IsMet, counts};
 ghost use Rattle.latch_shots.specs.Shots.{table_of, view_of};
 
 use crate::shots::Shots;
@@ -42,10 +42,11 @@ impl MetLatch {
     }
 }
 
-// The latch of an item that overlaps a latch, where it gets in the way of that.
+// The latch of an item that overlaps a latch of a request, where it is of another request and gets in the way of that.
 pub(crate) fn met_at(
     rows: &Rows,
     seat: &mut RowSeat,
+    own: u64,
     asked: &Latch,
     access: Access,
     row: u32,
@@ -53,11 +54,11 @@ pub(crate) fn met_at(
     requires table { seat.old.table ≡ rows.now }
     requires item { (x : Item) × HasItem seat.old.view row x }
     ensures same { seat.new ≡ seat.old }
-    ensures met { (x : Item) → HasItem seat.old.view row x → MatchOption result (stamps_meet asked.now (held_as access x) ≡ false)
-        (λ m. (stamps_meet asked.now (held_as access x) ≡ true) × IsMet seat.new.view m (held_as access x)) }
+    ensures met { (x : Item) → HasItem seat.old.view row x → MatchOption result (counts own asked.now (held_as access x) ≡ false)
+        (λ m. (counts own asked.now (held_as access x) ≡ true) × IsMet seat.new.view m (held_as access x)) }
 {
     let facts = item_facts(rows, seat, row);
-    if !interferes(asked, access, facts.stamp) {
+    if facts.id == own || !interferes(asked, access, facts.stamp) {
         return None;
     }
     Some(MetLatch {

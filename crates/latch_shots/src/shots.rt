@@ -18,6 +18,8 @@ use span_key::{Scope, Span};
 /// spent.
 pub struct Shots {
     pub(crate) seat: RowSeat,
+    // the number of the request, whose own latches its shots may show beside those that it captured
+    pub(crate) own: u64,
     global_reads: Shot,
     global_writes: Shot,
     local_reads: Shot,
@@ -31,20 +33,22 @@ pub struct Returned {
 }
 
 impl Shots {
-    /// The shots to which a seat that was split off refers.
+    /// The shots to which a seat that was split off refers, of the request with this number. Its own latches among the items don't count.
     pub fn new(
         seat: RowSeat,
+        own: u64,
         global_reads: Shot,
         global_writes: Shot,
         local_reads: Shot,
         local_writes: Shot,
     ) -> Shots
-        ensures shown { (s : Snapshot) → Show seat.view global_reads global_writes local_reads local_writes s → AreShots result s }
+        ensures shown { (s : Snapshot) → Show seat.view own global_reads global_writes local_reads local_writes s → AreShots result s }
         ensures table { table_of result ≡ seat.table }
         ensures number { number_of result ≡ seat.view.number }
     {
         Shots {
             seat,
+            own,
             global_reads,
             global_writes,
             local_reads,
@@ -84,6 +88,7 @@ impl Shots {
     {
         let Shots {
             mut seat,
+            own: _,
             global_reads,
             global_writes,
             local_reads,

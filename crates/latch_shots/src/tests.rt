@@ -37,7 +37,7 @@ fn capture_nothing(rows: &Rows, seat: &mut RowSeat, chain: &Chain) -> Shots
         height: 0,
     };
     let own = rows.split(seat, &[]);
-    Shots::new(own, none, none, none, none)
+    Shots::new(own, 1, none, none, none, none)
 }
 
 /// Whether a latch meets something, by a walk that is asked twice and by the search for the first.

@@ -50,7 +50,7 @@ impl Walk {
             × Meets shots.new self.new asked.now rest) }
         ensures ends { IfSome result (λ _. walk_steps_left self.new < walk_steps_left self.old) }
     {
-        if let Some(met) = self.next_among(rows, &mut shots.seat, asked) {
+        if let Some(met) = self.next_among(rows, &mut shots.seat, shots.own, asked) {
             return Some(met);
         }
         match self.access {
@@ -76,23 +76,29 @@ impl Walk {
         let shot = shots.list(&asked.span, Access::Read);
         self.cursor = Cursor::first(rows, &mut shots.seat, &shot, &asked.span);
         self.access = Access::Read;
-        self.next_among(rows, &mut shots.seat, asked)
+        self.next_among(rows, &mut shots.seat, shots.own, asked)
     }
 
     // The next of those over which the walk goes now.
-    fn next_among(&mut self, rows: &Rows, seat: &mut RowSeat, asked: &Latch) -> Option<MetLatch>
+    fn next_among(
+        &mut self,
+        rows: &Rows,
+        seat: &mut RowSeat,
+        own: u64,
+        asked: &Latch,
+    ) -> Option<MetLatch>
         requires table { seat.old.table ≡ rows.now }
         requires walk { (xs : List Tree) × Among seat.old.view self.old.cursor asked.now.span xs }
         ensures same { (seat.new.table ≡ seat.old.table) × (seat.new.view ≡ seat.old.view) }
         ensures access { self.new.access ≡ self.old.access }
         ensures next { (xs : List Tree) → Among seat.old.view self.old.cursor asked.now.span xs
-            → MatchOption result ((meeting asked.now self.old.access xs ≡ []) × Among seat.new.view self.new.cursor asked.now.span [])
-            (λ m. (x : HeldLatch) × (rest : List Tree) × (meeting asked.now self.old.access xs ≡ x ∷ meeting asked.now self.old.access rest)
+            → MatchOption result ((meeting own asked.now self.old.access xs ≡ []) × Among seat.new.view self.new.cursor asked.now.span [])
+            (λ m. (x : HeldLatch) × (rest : List Tree) × (meeting own asked.now self.old.access xs ≡ x ∷ meeting own asked.now self.old.access rest)
             × IsMet seat.new.view m x × Among seat.new.view self.new.cursor asked.now.span rest) }
         ensures ends { IfSome result (λ _. steps_left self.new.cursor < steps_left self.old.cursor) }
     {
         while let Some(row) = self.cursor.next(rows, seat, &asked.span) {
-            if let Some(met) = met_at(rows, seat, asked, self.access, row) {
+            if let Some(met) = met_at(rows, seat, own, asked, self.access, row) {
                 return Some(met);
             }
         }

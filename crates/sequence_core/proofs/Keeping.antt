@@ -31,7 +31,7 @@ use Rattle.signal_board.proofs.Laws.{lane_small}
 use Rattle.sequence_core.specs.Book.{BookSays}
 use Rattle.history_latches.specs.Logs.{HoldsLog}
 use Rattle.history_latches.specs.declared.latches.HistoryLatches.{HistoryLatches}
-use Rattle.held_latches.specs.Lists.{others}
+use Rattle.latch_shots.specs.Held.{others}
 use Rattle.history_latches.proofs.Ending.{held_ended}
 use Rattle.sequence_core.specs.Kept.{IsKept}
 use Rattle.sequence_core.specs.Lanes.{Falls, LanesSays, is_among, lanes_below, least}

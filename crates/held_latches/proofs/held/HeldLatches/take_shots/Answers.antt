@@ -156,7 +156,7 @@ returns-clause-holds c = λ s n spare o few.
     }
 
 pub returns-clause-shots : goal.returns-clause-shots
-returns-clause-shots c = λ s n spare o few scopes.
+returns-clause-shots c = λ held s n spare o few upto writers rest scopes.
     let h = c.args.self.now in let k = o.holds.kept in let g = o.holds.global in let l = o.holds.local in
     let loose = g.pending ++ l.pending in
     let gw : Root = tree_root h.global.writes g.writes in let gr : Root = tree_root h.global.reads g.reads in
@@ -185,6 +185,6 @@ returns-clause-shots c = λ s n spare o few scopes.
     ∙ ap (λ l. l ++ with_row c.shot_if-global_writes.result.root []) c.add_root-one.ensures.rows))
     ∙ rows-four c.shot_if-global_reads.result.root c.shot_if-global_writes.result.root c.shot_if-local_reads.result.root c.shot_if-local_writes.result.root) in
     let (stock, roots) = c.split-seat.ensures.stock shots (gw ∷ gr ∷ lw ∷ lr ∷ []) loose four rows in
-    c.new.ensures.shown _ (shows-all h h.pool.seat.view c.split-seat.result.view s n spare c.args.global c.args.global_write c.args.local c.args.local_write
+    c.new.ensures.shown _ (shows-all h c.split-seat.result.view held s n spare c.args.id c.args.global c.args.global_write c.args.local c.args.local_write
     c.shot_if-global_reads.result c.shot_if-global_writes.result c.shot_if-local_reads.result c.shot_if-local_writes.result o c.known.ensures roots
-    c.split-seat.ensures.seat.0 c.split-seat.ensures.seat.1 scopes)
+    c.split-seat.ensures.seat.0 c.split-seat.ensures.seat.1 upto writers rest scopes)

@@ -13,7 +13,7 @@ returns-in-Some-clause-next c = λ todo h.
     let w = c.args.self.now in
     let (x, rest, next, met, among) = c.in-Some.ensures.next h.items h.among in (
       x,
-      meeting l w.access rest ++ h.later,
+      meeting shots.own l w.access rest ++ h.later,
       h.todo_is ∙ ap (λ xs. xs ++ h.later) next,
       met,
       meets-rest (content_of shots) (content_of (record shots { seat = seat })) w c.next_among.new.self l rest h.later

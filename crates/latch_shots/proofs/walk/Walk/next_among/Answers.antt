@@ -27,7 +27,7 @@ returns-in-Some-met_at-clause-next c = λ xs o.
     let met = c.in-Some-met_at.ensures.met (item_of n.item) n.here in (
       held_as access (item_of n.item),
       n.rest,
-      met-next l c.args.self.now.access access xs todo n.rest n.item c.loop-row.invariant.access so_far n.next met.0,
+      met-next c.args.own l c.args.self.now.access access xs todo n.rest n.item c.loop-row.invariant.access so_far n.next met.0,
       met.1,
       subst (λ (s : SeatState). Among s.view c.next.new.self l.span n.rest) (sym c.met_at.ensures.same) n.among,
     )
@@ -45,7 +45,7 @@ loop-row-preserved c = record {
       c.loop-row.seat.follows c.next.new.seat.follows a c.next.ensures.same.1 (c.in-Some.ensures.next a.root todo a.work a.reached a.walks) in (
         n.rest,
         subst (λ (s : SeatState). Among s.view c.next.new.self l.span n.rest) (sym c.met_at.ensures.same) n.among,
-        met-past l c.args.self.now.access c.loop-row.self.access xs todo n.rest n.item c.loop-row.invariant.access so_far n.next
+        met-past c.args.own l c.args.self.now.access c.loop-row.self.access xs todo n.rest n.item c.loop-row.invariant.access so_far n.next
             (c.in_default-met_at.ensures.met (item_of n.item) n.here),
       );
 }
@@ -55,7 +55,7 @@ returns-clause-next c = λ xs o.
     let (todo, a, so_far) = c.loop-row.invariant.walk xs o in
     let l = c.args.asked.now in
     let end = c.in_default.ensures.next a.root todo a.work a.reached a.walks in (
-      so_far ∙ ap (meeting l c.args.self.now.access) end.0,
+      so_far ∙ ap (meeting c.args.own l c.args.self.now.access) end.0,
       among-end c.loop-row.seat.view c.next.new.seat.view c.loop-row.self.cursor c.next.new.self l.span todo c.loop-row.seat.follows
           c.next.new.seat.follows a c.next.ensures.same.1 end.1,
     )

@@ -11,7 +11,7 @@ invariant-loop-row l = record {
   access : l.self.access ≡ l.fn.self.access;
   less : steps_left l.self.cursor ≤ steps_left l.fn.self.cursor;
   walk : (xs : List Tree) → Among l.fn.seat.view l.fn.self.cursor l.asked.span xs
-      → (rest : List Tree) × Among l.seat.view l.self.cursor l.asked.span rest × (meeting l.asked l.fn.self.access xs ≡ meeting l.asked l.fn.self.access rest);
+      → (rest : List Tree) × Among l.seat.view l.self.cursor l.asked.span rest × (meeting l.own l.asked l.fn.self.access xs ≡ meeting l.own l.asked l.fn.self.access rest);
 }
 
 abbrev pub decreases-loop-row : goal.decreases-loop-row
