@@ -10,94 +10,82 @@ use Rattle.interval_tree.proofs.Rows.{back-cons}
 use Rattle.interval_tree.specs.Held.{OwnsNode}
 use Rattle.interval_tree.specs.Steps.{CanSwap, Swaps}
 use Rattle.tree_shrink.proofs.Seams.{nothing}
-use Rattle.tree_shrink.specs.Steps.{CanClose, CanCloseChildren, Closes, ClosesChildren}
+use Rattle.tree_shrink.specs.Steps.{CanClose, CanCloseChildren, CanDraw, Closes, ClosesChildren, Draws}
 
--- the link behind the gap is out
-pub record Out (x : SeatView) (row kind m moved : ℕ) (us bs vs R : List Tree) : Type 0 where
-  pub one : Tree
-  pub later : List Tree
-  pub split : bs ≡ one ∷ later
-  pub owns : OwnsNode x row kind m (us ++ nil ∷ (nil ∷ (later ++ vs)))
-  pub back : x.refs ≡ with_old_target one R
-  pub named : moved ≡ tree_word one
+-- where nothing is behind it, a link comes out by one swap
+pub draw-last : (v : SeatView) (row k n : ℕ) → n ≡ 0 → CanDraw v row k n → CanSwap v row k 0
+draw-last v row k n none (kind, m, us, [], vs, b, o, at, many, most, few) =
+    (kind, m, us, vs, b, nil, v.refs, o, at, omega arith, refl, refl, omega arith)
+draw-last v row k n none (kind, m, us, c ∷ cs, vs, b, o, at, many, most, few) = absurd (omega arith)
 
-pub taken : (v x : SeatView) (row k n moved : ℕ) → Swaps v x row (k + 1) 0 moved → 0 < n → (kind m : ℕ) (us bs vs : List Tree)
-    → OwnsNode v row kind m (us ++ nil ∷ (bs ++ vs)) → length us ≡ k → length bs ≡ n → Out x row kind m moved us bs vs v.refs
-taken v x row k n moved f low kind m us [] vs o at many = absurd (omega arith)
-taken v x row k n moved f low kind m us (b ∷ bs) vs o at many =
-    let z = f kind m (us ++ nil ∷ []) (bs ++ vs) b nil v.refs (subst (OwnsNode v row kind m) (sym (append_assoc us (nil ∷ []) (b ∷ (bs ++ vs)))) o)
-    (length-append us (nil ∷ []) ∙ omega arith) refl refl in
-    record {
-      one = b;
-      later = bs;
-      split = refl;
-      owns = subst (OwnsNode x row kind m) (append_assoc us (nil ∷ []) (nil ∷ (bs ++ vs))) z.1;
-      back = z.2;
-      named = z.0;
-    }
+pub drawn-last : (v w : SeatView) (row k n result : ℕ) → n ≡ 0 → Swaps v w row k 0 result → Draws v w row k n result
+drawn-last v w row k n result none f kind m us [] vs b o at many = f kind m us vs b nil v.refs o at refl refl
+drawn-last v w row k n result none f kind m us (c ∷ cs) vs b o at many = absurd (omega arith)
 
--- and has gone into it
-pub record Moved (w : SeatView) (row k n kind m : ℕ) (us bs vs R : List Tree) : Type 0 where
-  pub one : Tree
-  pub later : List Tree
-  pub split : bs ≡ one ∷ later
-  pub owns : OwnsNode w row kind m ((us ++ one ∷ []) ++ nil ∷ (later ++ vs))
-  pub place : length (us ++ one ∷ []) ≡ k + 1
-  pub many : length later ≡ n - 1
-  pub back : w.refs ≡ R
+-- else the link behind it comes out first
+behind : (us bs vs : List Tree) (b c : Tree) → us ++ b ∷ (c ∷ bs ++ vs) ≡ (us ++ b ∷ []) ++ c ∷ (bs ++ vs)
+behind us bs vs b c = sym (append_assoc us (b ∷ []) (c ∷ (bs ++ vs)))
 
-pub moves : (v x w : SeatView) (row k n moved answer : ℕ) → Swaps v x row (k + 1) 0 moved → Swaps x w row k moved answer → 0 < n → (kind m : ℕ)
-    (us bs vs : List Tree) → OwnsNode v row kind m (us ++ nil ∷ (bs ++ vs)) → length us ≡ k → length bs ≡ n → Moved w row k n kind m us bs vs v.refs
-moves v x w row k n moved answer f g low kind m us bs vs o at many =
-    let t = taken v x row k n moved f low kind m us bs vs o at many in
-    let z = g kind m us (nil ∷ (t.later ++ vs)) nil t.one v.refs t.owns at t.back (sym t.named) in
-    let l = ap length t.split in
-    record {
-      one = t.one;
-      later = t.later;
-      split = t.split;
-      owns = subst (OwnsNode w row kind m) (sym (append_assoc us (t.one ∷ []) (nil ∷ (t.later ++ vs)))) z.1;
-      place = length-append us (t.one ∷ []) ∙ omega arith;
-      many = omega arith;
-      back = z.2;
-    }
-
-pub close-first : (v : SeatView) (row k n : ℕ) → 0 < n → CanClose v row k n → CanSwap v row (k + 1) 0
-close-first v row k n low (kind, m, us, [], vs, o, at, many, most, few) = absurd (omega arith)
-close-first v row k n low (kind, m, us, b ∷ bs, vs, o, at, many, most, few) = (
+pub draw-next : (v : SeatView) (row k n : ℕ) → 0 < n → CanDraw v row k n → CanDraw v row (k + 1) (n - 1)
+draw-next v row k n low (kind, m, us, [], vs, b, o, at, many, most, few) = absurd (omega arith)
+draw-next v row k n low (kind, m, us, c ∷ cs, vs, b, o, at, many, most, few) = (
   kind,
   m,
-  us ++ nil ∷ [],
-  bs ++ vs,
-  b,
-  nil,
-  v.refs,
-  subst (OwnsNode v row kind m) (sym (append_assoc us (nil ∷ []) (b ∷ (bs ++ vs)))) o,
-  length-append us (nil ∷ []) ∙ omega arith,
+  us ++ b ∷ [],
+  cs,
+  vs,
+  c,
+  subst (OwnsNode v row kind m) (behind us cs vs b c) o,
+  length-append us (b ∷ []) ∙ omega arith,
   omega arith,
-  refl,
-  refl,
   omega arith,
+  few,
 )
 
-pub close-second : (v x : SeatView) (row k n moved : ℕ) → 0 < n → CanClose v row k n → Swaps v x row (k + 1) 0 moved → CanSwap x row k moved
-close-second v x row k n moved low (kind, m, us, bs, vs, o, at, many, most, few) f =
-    let t = taken v x row k n moved f low kind m us bs vs o at many in
-    (kind, m, us, nil ∷ (t.later ++ vs), nil, t.one, v.refs, t.owns, at, omega arith, t.back, sym t.named, omega arith)
+-- and takes its place
+pub record Drawn (v x : SeatView) (row k n next kind m : ℕ) (us bs vs : List Tree) (b : Tree) : Type 0 where
+  pub one : Tree
+  pub later : List Tree
+  pub split : bs ≡ one ∷ later
+  pub owns : OwnsNode x row kind m (us ++ b ∷ (later ++ nil ∷ vs))
+  pub back : x.refs ≡ with_old_target one v.refs
+  pub named : tree_word one ≡ next
 
-pub close-next : (v x w : SeatView) (row k n moved answer : ℕ) → 0 < n → CanClose v row k n → Swaps v x row (k + 1) 0 moved → Swaps x w row k moved answer
-    → CanClose w row (k + 1) (n - 1) × (w.refs ≡ v.refs)
-close-next v x w row k n moved answer low (kind, m, us, bs, vs, o, at, many, most, few) f g =
-    let t = moves v x w row k n moved answer f g low kind m us bs vs o at many in
-    let l = ap length t.back in
-    ((kind, m, us ++ t.one ∷ [], t.later, vs, t.owns, t.place, t.many, omega arith, omega arith), t.back)
+pub drawn-next : (v x : SeatView) (row k n next : ℕ) → 0 < n → Draws v x row (k + 1) (n - 1) next → (kind m : ℕ) (us bs vs : List Tree) (b : Tree)
+    → OwnsNode v row kind m (us ++ b ∷ (bs ++ vs)) → length us ≡ k → length bs ≡ n → Drawn v x row k n next kind m us bs vs b
+drawn-next v x row k n next low f kind m us [] vs b o at many = absurd (omega arith)
+drawn-next v x row k n next low f kind m us (c ∷ cs) vs b o at many =
+    let z = f kind m (us ++ b ∷ []) cs vs c (subst (OwnsNode v row kind m) (behind us cs vs b c) o) (length-append us (b ∷ []) ∙ omega arith) (omega arith) in
+    record {
+      one = c;
+      later = cs;
+      split = refl;
+      owns = subst (OwnsNode x row kind m) (append_assoc us (b ∷ []) (cs ++ nil ∷ vs)) z.1;
+      back = z.2;
+      named = sym z.0;
+    }
 
-pub all-closed : (v x w y : SeatView) (row k n moved answer : ℕ) → Swaps v x row (k + 1) 0 moved → Swaps x w row k moved answer → 0 < n
-    → Closes w y row (k + 1) (n - 1) → Closes v y row k n
-all-closed v x w y row k n moved answer f g low h kind m us bs vs o at many =
-    let t = moves v x w row k n moved answer f g low kind m us bs vs o at many in
-    subst (OwnsNode y row kind m) (append_assoc us (t.one ∷ []) (t.later ++ nil ∷ vs) ∙ ap (λ l. us ++ (l ++ nil ∷ vs)) (sym t.split))
-    (h kind m (us ++ t.one ∷ []) t.later vs t.owns t.place t.many)
+pub draw-swap : (v x : SeatView) (row k n next : ℕ) → 0 < n → CanDraw v row k n → Draws v x row (k + 1) (n - 1) next → CanSwap x row k next
+draw-swap v x row k n next low (kind, m, us, bs, vs, b, o, at, many, most, few) f =
+    let d = drawn-next v x row k n next low f kind m us bs vs b o at many in
+    (kind, m, us, d.later ++ nil ∷ vs, b, d.one, v.refs, d.owns, at, omega arith, d.back, d.named, omega arith)
+
+pub all-drawn : (v x w : SeatView) (row k n next result : ℕ) → 0 < n → Draws v x row (k + 1) (n - 1) next → Swaps x w row k next result
+    → Draws v w row k n result
+all-drawn v x w row k n next result low f g kind m us bs vs b o at many =
+    let d = drawn-next v x row k n next low f kind m us bs vs b o at many in
+    let z = g kind m us (d.later ++ nil ∷ vs) b d.one v.refs d.owns at d.back d.named in
+    (z.0, subst (OwnsNode w row kind m) (ap (λ l. us ++ (l ++ nil ∷ vs)) (sym d.split)) z.1, z.2)
+
+-- a gap is a link that has come out: what is behind it is drawn into it
+pub gap-draws : (v : SeatView) (row k n : ℕ) → CanClose v row k n → CanDraw v row k n
+gap-draws v row k n (kind, m, us, bs, vs, o, at, many, most, few) = (kind, m, us, bs, vs, nil, o, at, many, most, few)
+
+pub gap-closed : (v w : SeatView) (row k n result : ℕ) → Draws v w row k n result → Closes v w row k n
+gap-closed v w row k n result f kind m us bs vs o at many = (f kind m us bs vs nil o at many).1
+
+pub gap-back : (v w : SeatView) (row k n result : ℕ) → CanClose v row k n → Draws v w row k n result → w.refs ≡ v.refs
+gap-back v w row k n result (kind, m, us, bs, vs, o, at, many, most, few) f = (f kind m us bs vs nil o at many).2
 
 pub none-closed : (v : SeatView) (row k n : ℕ) → n ≤ 0 → Closes v v row k n
 none-closed v row k n low kind m us [] vs o at many = o

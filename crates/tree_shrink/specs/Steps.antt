@@ -1,6 +1,7 @@
 -- What the calls on open nodes need, and what they do.
 use Rattle.std.specs.Prelude.{List, length, replicate, suc, ℕ, ◌++◌, ◌+◌, ◌-◌, ◌<◌, ◌^◌, ◌∷◌, ◌≡◌, ◌≢◌, ◌≤◌}
 use Rattle.row_pool.specs.Chains.{IsChain}
+use Rattle.row_pool.specs.Changes.{with_old_target}
 use Rattle.row_pool.specs.SeatView.{SeatView}
 use Rattle.row_pool.specs.Trees.{Tree, children, nil, tree_word}
 use Rattle.row_pool.specs.declared.chain.Chain.{Chain}
@@ -15,6 +16,16 @@ use Rattle.tree_shrink.specs.Stages.{Carried, Gains, Has, Joins, Lent, Lightens,
 -- of the chain at most k rows are used, and the seat works on the rows ys in place of the rows xs
 abbrev pub SpendsAll : ℕ → List ℕ → List ℕ → SeatView → SeatView → Chain → Chain → Type 0
 SpendsAll k xs ys v w c d = (rs : List ℕ) → IsChain v c rs → Spends k xs ys rs v w d
+
+-- the link k of the owned node can come out, and n links behind it can move down by one place
+abbrev pub CanDraw : SeatView → ℕ → ℕ → ℕ → Type 0
+CanDraw v row k n = (kind m : ℕ) × (us bs vs : List Tree) × (b : Tree) × OwnsNode v row kind m (us ++ b ∷ (bs ++ vs)) × (length us ≡ k) × (length bs ≡ n)
+    × (k + n ≤ 63) × (length v.refs + 1 < 2 ^ 32)
+
+-- it did, and is the newest reference; they did
+abbrev pub Draws : SeatView → SeatView → ℕ → ℕ → ℕ → ℕ → Type 0
+Draws v w row k n result = (kind m : ℕ) (us bs vs : List Tree) (b : Tree) → OwnsNode v row kind m (us ++ b ∷ (bs ++ vs)) → length us ≡ k → length bs ≡ n
+    → (result ≡ tree_word b) × OwnsNode w row kind m (us ++ (bs ++ nil ∷ vs)) × (w.refs ≡ with_old_target b v.refs)
 
 -- n links of the owned node behind the empty link k can move down by one place
 abbrev pub CanClose : SeatView → ℕ → ℕ → ℕ → Type 0

@@ -1,7 +1,7 @@
 // Links of owned nodes: a gap is closed, and a child is taken out.
 ghost use Rattle.std.specs.Prelude.{◌≡◌, ◌≢◌, ℕ, ◌+◌, ◌-◌, ◌<◌, ◌≤◌, ◌^◌, List, [], ◌∷◌, ◌++◌, length};
 ghost use Rattle.interval_tree.specs.Held.{OthersStand, HasRoom};
-ghost use Rattle.tree_shrink.specs.Steps.{SpendsAll, CanClose, Closes, CanTake, Takes, CanCut, Cuts, CanCloseChildren, ClosesChildren};
+ghost use Rattle.tree_shrink.specs.Steps.{SpendsAll, CanDraw, Draws, CanClose, Closes, CanTake, Takes, CanCut, Cuts, CanCloseChildren, ClosesChildren};
 
 use interval_tree::workshop::{kind_of, own_node, set_count, swap};
 use row_pool::{Chain, RowSeat, Rows};
@@ -14,6 +14,23 @@ const CHILDREN: u32 = 32;
 /// The kind of an inner node.
 const INNER: u64 = 3;
 
+/// The link k of an owned node comes out, and the n links behind it move down by one place, which costs one store a link: the last one goes first. The last
+/// place is empty then. The answer is what came out, as a link word, and the seat's newest reference is to it.
+pub(crate) fn draw_link(rows: &Rows, seat: &mut RowSeat, row: u32, k: u32, n: u32) -> u64
+    requires table { seat.old.table ≡ rows.now }
+    requires links { CanDraw seat.old.view row k n }
+    ensures table { seat.new.table ≡ seat.old.table }
+    ensures drawn { Draws seat.old.view seat.new.view row k n result }
+    ensures others { OthersStand row seat.old.view seat.new.view }
+    ensures low { result ≤ 4194304 }
+{
+    if n == 0 {
+        return swap(rows, seat, row, k, 0);
+    }
+    let next = draw_link(rows, seat, row, k + 1, n - 1);
+    swap(rows, seat, row, k, next)
+}
+
 /// The n links behind the empty link k move down by one place, and the last place is empty then.
 pub(crate) fn close_gap(rows: &Rows, seat: &mut RowSeat, row: u32, k: u32, n: u32)
     requires table { seat.old.table ≡ rows.now }
@@ -23,9 +40,7 @@ pub(crate) fn close_gap(rows: &Rows, seat: &mut RowSeat, row: u32, k: u32, n: u3
     ensures others { OthersStand row seat.old.view seat.new.view }
 {
     if n > 0 {
-        let moved = swap(rows, seat, row, k + 1, 0);
-        swap(rows, seat, row, k, moved);
-        close_gap(rows, seat, row, k + 1, n - 1);
+        draw_link(rows, seat, row, k, n);
     }
 }
 
@@ -70,8 +85,7 @@ pub(crate) fn cut_item(rows: &Rows, seat: &mut RowSeat, row: u32, i: u32, n: u32
     ensures others { OthersStand row seat.old.view seat.new.view }
     ensures low { result ≤ 4194304 }
 {
-    let item = swap(rows, seat, row, ITEMS + i, 0);
-    close_gap(rows, seat, row, ITEMS + i, n - 1 - i);
+    let item = draw_link(rows, seat, row, ITEMS + i, n - 1 - i);
     close_children(rows, seat, row, i, n);
     set_count(rows, seat, row, n as u64 - 1);
     item
