@@ -5,17 +5,23 @@ use Rattle.std.proofs.lemmas.Bool.Decides.{eqb_tells}
 use Rattle.std.specs.Prelude.{Some}
 use lib.ListN.{get_elem?}
 use mathlib.Core.Option.{some}
+use Rattle.row_pool.proofs.ClearedLinks.{grows-none}
+use Rattle.row_pool.proofs.NewestRef.{tree_of-first, without_tree-first}
 use Rattle.row_pool.proofs.Sums.{without_tree-length}
-use Rattle.row_pool.specs.Changes.{tree_of, without_tree}
+use Rattle.row_pool.specs.Chains.{ChainGrows, IsChain}
+use Rattle.row_pool.specs.Changes.{tree_of, with_ref, without_tree}
+use Rattle.row_pool.specs.declared.chain.Chain.{Chain}
 use Rattle.row_pool.specs.SeatView.{SeatView}
 use Rattle.row_pool.specs.Trees.{Tree, children, nil, tree_word}
 use Rattle.row_pool.specs.Views.{Reaches, below}
 use Rattle.latch_item.specs.Items.{IsLatch, word}
 use Rattle.latch_item.specs.Shape.{Among, Kid, Node, Pairs, RefersTo, Sorted, Stands, weave}
 use Rattle.interval_tree.proofs.Depths.{each-among, node-items}
+use Rattle.interval_tree.proofs.Frames.{spends-grows, spends-join}
+use Rattle.interval_tree.proofs.Growing.{root-reached}
 use Rattle.interval_tree.proofs.Lists.{among-back, among-front}
 use Rattle.interval_tree.proofs.Rows.{up-link}
-use Rattle.interval_tree.specs.Held.{IsNodeRow, OwnsNode}
+use Rattle.interval_tree.specs.Held.{IsNodeRow, OwnsNode, Spends}
 use Rattle.interval_tree.specs.Nodes.{Body}
 use Rattle.interval_tree.specs.States.{ReachesItem, Standing}
 use Rattle.tree_shrink.proofs.Borders.{among-split}
@@ -146,6 +152,39 @@ pub only-one : (it : Tree) (xs : List Tree) → length xs ≡ 1 → Among it xs 
 only-one it [] e a = absurd a
 only-one it (x ∷ y ∷ xs) e a = absurd (omega arith)
 only-one it (x ∷ []) e a = ⊎_elim (λ (p : x ≡ it). record { front = []; back = []; old = ap (λ z. z ∷ []) p; new = refl }) (λ (p : Among it []). absurd p) a
+
+-- ---- the last item goes
+pub item-reached : (v : SeatView) (root height : ℕ) (xs : List Tree) (it : Tree) → RefersTo v (Some root) height xs → Among it xs → Reaches v it
+item-reached v root height xs it r a = let t : Tree = tree_of root v.refs in
+    reach-node v r.1.level (word t 1) (word t 2) (children t) xs it (λ u b. up-below v t u (root-reached v root r.0) b) r.1.stands a
+
+-- beside a reference to an item the root's is still there, whichever row the item has
+pub root-beside : (root : ℕ) (it : Tree) (refs : List Tree) → tree_word (tree_of root refs) ≡ suc root → tree_word (tree_of root (it ∷ refs)) ≡ suc root
+root-beside root it refs here = ⊎_elim (λ t. rw t.0 t.1) (λ t. rw t.0 here) (eqb_tells (tree_word it) (suc root))
+
+-- when the root's is given up the item's is there, and when that is given up too, just the root's is gone
+pub item-left : (root item : ℕ) (it : Tree) (refs : List Tree) → tree_word (tree_of root refs) ≡ suc root → tree_word it ≡ suc item
+    → (tree_word (tree_of item (without_tree root (it ∷ refs))) ≡ suc item) × (without_tree item (without_tree root (it ∷ refs)) ≡ without_tree root refs)
+item-left root item it refs here is = ⊎_elim
+    (λ t. let same : root ≡ item = (let a = t.1 in omega arith) in
+    rw t.0 (subst (λ r. tree_word (tree_of r refs) ≡ suc r) same here, ap (λ r. without_tree r refs) (sym same)))
+    (λ t. rw t.0 (
+      ap tree_word (tree_of-first item it (without_tree root refs) is) ∙ is,
+      without_tree-first item it (without_tree root refs) is,
+    )) (eqb_tells (tree_word it) (suc root))
+
+-- a reference more uses no row
+pub held-grows : (v a : SeatView) (t : Tree) (c : Chain) → a ≡ with_ref t v → ChainGrows v a c c
+held-grows v a t c held = subst (λ x. ChainGrows v x c c) (sym held) (grows-none v (with_ref t v) c refl
+    (record { number = refl; out = refl; size = refl }))
+
+-- and the two that are given up bring rows
+pub uprooted : (v a b w : SeatView) (t : Tree) (c d e : Chain) (rs : List ℕ) → a ≡ with_ref t v → ChainGrows a b c d → ChainGrows b w d e → IsChain v c rs
+    → Spends 0 [] [] rs v w e
+uprooted v a b w t c d e rs held f g h =
+    let one = spends-grows v a c c [] rs (held-grows v a t c held) h in
+    let two = spends-join 0 0 [] [] [] rs v a b c d one (spends-grows a b c d [] one.left f one.chain) in
+    spends-join 0 0 [] [] [] rs v b w d e two (spends-grows b w d e [] two.left g two.chain)
 
 -- ---- the item of a node that is named
 pub named-item : (v : SeatView) (h row kind n item : ℕ) (us xs : List Tree) (it : Tree) → OwnsNode v row kind n us → Node h kind n us xs

@@ -87,6 +87,21 @@ fn remove_live(
     settle_root(rows, seat, node, level, chain)
 }
 
+/// The tree of one item goes, and the item's row is freed last, so that the next item takes it and the next leaf the root's: a row that was a node before
+/// needs no blanking.
+fn uproot(rows: &Rows, seat: &mut RowSeat, root: u32, item: u32, chain: &mut Chain)
+    requires table { seat.old.table ≡ rows.now }
+    requires tree { (height : ℕ) × (xs : List Row) × (it : Row) × RefersTo seat.old.view (Some root) height xs × Among it xs × (tree_word it ≡ suc item) }
+    requires few { length seat.old.view.refs < 2 ^ 31 }
+    requires chain { (rs : List ℕ) × IsChain seat.old.view chain.old rs }
+    ensures same { (seat.new.table ≡ seat.old.table) × (seat.new.view.refs ≡ without_tree root seat.old.view.refs) }
+    ensures spends { SpendsAll 0 [] [] seat.old.view seat.new.view chain.old chain.new }
+{
+    rows.hold(seat, item);
+    rows.drop_ref(seat, root, chain);
+    rows.drop_ref(seat, item, chain);
+}
+
 /// An item goes out of the tree of a root, which has `len` items. The answer is the root and the height that are left.
 fn remove_some(
     rows: &Rows,
@@ -111,7 +126,7 @@ fn remove_some(
     ensures spends { SpendsAll 5 [] [] seat.old.view seat.new.view chain.old chain.new }
 {
     if len == 1 {
-        rows.drop_ref(seat, root, chain);
+        uproot(rows, seat, root, item, chain);
         return (None, 0);
     }
     let (over, level) = remove_live(rows, seat, root, height - 1, item, chain);

@@ -3,25 +3,24 @@ use Rattle.row_pool.proofs.Sums.{without_tree-length}
 use Rattle.row_pool.specs.Changes.{without_tree}
 use Rattle.row_pool.specs.Trees.{Tree}
 use Rattle.latch_item.specs.Shape.{Among}
-use Rattle.interval_tree.proofs.Frames.{spends-grows, spends-more}
+use Rattle.interval_tree.proofs.Frames.{spends-more}
 use Rattle.interval_tree.proofs.Growing.{beside-first, refers-standing}
 use Rattle.tree_shrink.proofs.Reaching.{leaving, one-less, only-one}
 use Rattle.tree_shrink.proofs.whole.remove_some.Goals as goal
 
-pub drop_ref-requires-clause-reference : goal.drop_ref-requires-clause-reference
-drop_ref-requires-clause-reference c = let (xs, it, r, many, among, is) = c.requires.tree in r.0
+pub uproot-requires-clause-tree : goal.uproot-requires-clause-tree
+uproot-requires-clause-tree c = let (xs, it, r, many, among, is) = c.requires.tree in (c.args.height, xs, it, r, among, is)
 
-pub drop_ref-requires-clause-chain : goal.drop_ref-requires-clause-chain
-drop_ref-requires-clause-chain c = let (rs, g, many) = c.requires.room in (rs, g)
+pub uproot-requires-clause-chain : goal.uproot-requires-clause-chain
+uproot-requires-clause-chain c = let (rs, g, many) = c.requires.room in (rs, g)
 
 pub returns-then-len-eq1-clause-tree : goal.returns-then-len-eq1-clause-tree
 returns-then-len-eq1-clause-tree c = λ xs it r many among is.
-    ([], only-one it xs (let a = c.if-len-eq1.true in omega arith) among, refl, c.drop_ref.ensures.refs)
+    ([], only-one it xs (let a = c.if-len-eq1.true in omega arith) among, refl, c.uproot.ensures.same.1)
 
 pub returns-then-len-eq1-clause-spends : goal.returns-then-len-eq1-clause-spends
 returns-then-len-eq1-clause-spends c = λ rs g.
-    spends-more 0 5 [] [] rs c.args.seat.now.view c.drop_ref.new.seat.view c.drop_ref.new.chain (omega arith)
-    (spends-grows c.args.seat.now.view c.drop_ref.new.seat.view c.args.chain.now c.drop_ref.new.chain [] rs c.drop_ref.ensures.chain g)
+    spends-more 0 5 [] [] rs c.args.seat.now.view c.uproot.new.seat.view c.uproot.new.chain (omega arith) (c.uproot.ensures.spends rs g)
 
 some-long : (it : Tree) (xs : List Tree) → Among it xs → 1 ≤ length xs
 some-long it [] a = absurd a
@@ -50,7 +49,7 @@ returns-clause-tree c = λ xs it r many among is.
 
 pub returns-then-len-eq1-clause-few : goal.returns-then-len-eq1-clause-few
 returns-then-len-eq1-clause-few c =
-    let a = ap length c.drop_ref.ensures.refs in let b = without_tree-length c.args.root c.args.seat.now.view.refs in omega arith
+    let a = ap length c.uproot.ensures.same.1 in let b = without_tree-length c.args.root c.args.seat.now.view.refs in omega arith
 
 pub returns-clause-few : goal.returns-clause-few
 returns-clause-few c =
