@@ -86,3 +86,9 @@ pub record Publishes {S : Type 0} (st : Step S) (me : Me S SeatView) (n : ℕ) (
       → (t : Tree) × Becomes r e us t × (now.0 ≡ published r t me.0)
   pub through_link : (r q k : ℕ) (e d : Entry) (us : List Tree) → At st r 0 → find r me.0.owned ≡ some e → e.linked ≡ 1 → e.links ≡ map Link.to us
       → find q me.0.owned ≡ some d → get_elem? d.links k ≡ some (Link.own r) → (t : Tree) × Becomes r e us t × (now.0 ≡ published_by_link r t q k d me.0)
+
+-- A load of the count of an owned row. Where it is 1 already, the row goes live as by the store
+pub record PublishesCounted {S : Type 0} (st : Step S) (me : Me S SeatView) (n : ℕ) (now : Me S SeatView) : Type 0 where
+  pub unchanged : Unchanged me now
+  pub counted : n ≡ 1 → Publishes st me n now
+  pub uncounted : (n ≡ 1 → ⊥) → now.0 ≡ me.0

@@ -20,8 +20,8 @@ ghost use Rattle.row_pool.specs.Loops.{HasZeros};
 
 use crate::chain::Chain;
 use crate::steps::{
-    DropRef, Free, Hold, JoinViews, MovedRows, Note, OwnIfSingle, Publish, Read, SetKind, SetLink,
-    SplitRefs, Write,
+    DropRef, Free, Hold, JoinViews, MovedRows, Note, OwnIfSingle, Publish, PublishCounted, Read,
+    SetKind, SetLink, SplitRefs, Write,
 };
 use crate::view::{CountRule, View};
 use atomic_table::{Seat, Table};
@@ -508,7 +508,8 @@ impl Rows {
 
     /// An owned item or node goes live: nobody writes it from then on, and others may come to reach it. Its links stand for live rows, at most 3 levels of
     /// them.
-    /// The one reference to it is the seat's, or stays the link of the seat's row that leads to it. One store.
+    /// The one reference to it is the seat's, or stays the link of the seat's row that leads to it. One load where its count is 1 already, as that of a row
+    /// that was owned in place of its one reference; else a store more.
     pub fn publish(&self, seat: &mut RowSeat, row: u32)
         requires table { seat.old.table ≡ self.now }
         requires whole { (e : Entry) × (us : List Tree) × (find row seat.old.view.owned ≡ some e) × (0 < e.kind) × (e.links ≡ map to us)
@@ -522,9 +523,16 @@ impl Rows {
             → LinksToOwned seat.old.view row q k d
             → (t : Tree) × Becomes row e us t × (seat.new.view ≡ published_by_link row t q k d seat.old.view) }
     {
-        self.table
+        let count = row as usize * 80;
+        let found = self
+            .table
             .shared
-            .store::<Publish>(&mut seat.seat, row as usize * 80, 1);
+            .load::<PublishCounted>(&mut seat.seat, count);
+        if found != 1 {
+            self.table
+                .shared
+                .store::<Publish>(&mut seat.seat, count, 1);
+        }
     }
 
     /// Ends the pool. Nothing is split off any more, and the chain has all rows. No step.
