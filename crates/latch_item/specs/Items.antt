@@ -69,14 +69,6 @@ pub record OwnsItem (v : SeatView) (row : ℕ) (x : Item) : Type 0 where
 abbrev pub HasItem : SeatView → ℕ → Item → Type 0
 HasItem v row x = ((t : Tree) × Reaches v t × (tree_word t ≡ suc row) × IsItemOf t x) ⊎ OwnsItem v row x
 
--- the word w of a row is known to hold n, and otherwise the entry d is as e was
-pub record Holds (w n : ℕ) (e d : Entry) : Type 0 where
-  pub kind : d.kind ≡ e.kind
-  pub own : d.own ≡ e.own
-  pub linked : d.linked ≡ e.linked
-  pub here : find w d.known ≡ some n
-  pub others : (u : ℕ) → u ≢ w → find u d.known ≡ find u e.known
-
 -- the key, or the end, of a span
 abbrev pub part : Bool → Pair → List ℕ
 part end span = if end then span.1 else span.0

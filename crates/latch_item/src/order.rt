@@ -6,7 +6,7 @@ ghost use Rattle.latch_item.specs.Bytes.{Agree};
 ghost use Rattle.latch_item.specs.Items.{Item, HasItem, part, item_cmp as item_order};
 
 use crate::read::{read_len, read_part, read_word};
-use crate::words::key_word;
+use crate::words::{key_word, words_to};
 use row_pool::{RowSeat, Rows};
 use span_key::Span;
 use std::cmp::Ordering;
@@ -166,15 +166,6 @@ fn later_parts_cmp(
         }
     }
     len.cmp(&other_len)
-}
-
-// How many words a number of bytes takes.
-fn words_to(len: u32) -> u32
-    requires { len ≤ 256 }
-    ensures low { result ≤ 32 }
-    ensures enough { len ≤ result * 8 }
-{
-    (len + 7) / 8
 }
 
 // The order of (request, place).

@@ -1,9 +1,7 @@
-// What stands in each word of an item.
+// The bytes of a key as words.
 ghost use Rattle.std.specs.Prelude.{◌≡◌, ℕ, ◌+◌, ◌*◌, ◌<◌, ◌≤◌, length};
 ghost use Rattle.latch_item.specs.Bytes.{byte, number, skip, key_word as key_word_of};
-ghost use Rattle.latch_item.specs.Items.{IsItemPlace, item_word as item_word_of};
 
-use hlc_stamp::Stamp;
 use span_key::Span;
 
 /// Eight bytes of a key, from the byte 8 i on, with zeros after the key's end.
@@ -71,20 +69,11 @@ pub(crate) fn end_bytes(span: &Span) -> &[u8]
     }
 }
 
-/// What stands in a word of an item.
-pub(crate) fn item_word(word: u32, id: u64, place: u32, lane: u32, span: &Span, stamp: Stamp) -> u64
-    requires { IsItemPlace word }
-    ensures { result ≡ item_word_of (record { id = id; place = place; lane = lane; span = span.now; stamp = stamp }) word }
+/// How many words a number of bytes takes.
+pub(crate) fn words_to(len: u32) -> u32
+    requires { len ≤ 256 }
+    ensures low { result ≤ 32 }
+    ensures enough { len ≤ result * 8 }
 {
-    match word {
-        2 => id,
-        3 => place as u64,
-        4 => lane as u64,
-        5 => stamp.wall,
-        6 => stamp.logical as u64,
-        7 => span.key().bytes().len() as u64,
-        8 => end_bytes(span).len() as u64,
-        11..43 => key_word(span.key().bytes(), word - 11),
-        _ => key_word(end_bytes(span), word - 43),
-    }
+    (len + 7) / 8
 }
