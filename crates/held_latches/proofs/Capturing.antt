@@ -23,7 +23,7 @@ use Rattle.latch_model.specs.Latches.{in_scope}
 use Rattle.latch_shots.specs.Shown.{Show, root_of as shot_root}
 use Rattle.latch_shots.specs.Roots.{AreRoots, Root}
 use Rattle.held_latches.specs.Content.{Content, EachOf, held_of, items_in}
-use Rattle.held_latches.specs.Holding.{EachHeld, HasSpare, HoldsFlushed, InScopes, Kept, MayInsert, WritesIn, slots_of, writer_of}
+use Rattle.held_latches.specs.Holding.{EachHeld, HasSpare, InScopes, Kept, MayInsert, WritesIn, slots_of, writer_of}
 use Rattle.held_latches.specs.Lists.{shown_if, taken_if, without_by}
 use Rattle.held_latches.specs.Steps.{CanShow, PoolHas, SameRows}
 use Rattle.held_latches.specs.Stock.{rows_of, tree_root, with_row}
@@ -189,11 +189,11 @@ writer-upto true v w id e low = omega arith
 writer-upto false v w id e low = omega arith
 
 pub come-flushed : (old new : HeldLatches) (s : Snapshot) (n more id lane j : ℕ) (global local : Bool) → MayInsert old s n more id lane j
-    → HoldsFlushed new s n (13 * j + more) global local → slots_of new ≡ slots_of old
+    → HasSpare new s n (13 * j + more) → slots_of new ≡ slots_of old
     → writer_of new Global ≡ (if global then id else writer_of old Global) → writer_of new Local ≡ (if local then id else writer_of old Local)
     → MayInsert new s n more id lane j
 come-flushed old new s n more id lane j global local may o slots eg el = record {
-  has = record { holds = o.holds; spare = o.spare };
+  has = o;
   fits = may.fits;
   low = may.low;
   within = let w = may.within in omega arith;

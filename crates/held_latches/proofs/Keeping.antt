@@ -1,7 +1,6 @@
 -- The held latches while pending reads go into a tree, and while rows come to the pool.
-use Rattle.std.proofs.Common.{◌≡◌, ⊎_elim, ℕ, suc, ◌<◌, ◌≤◌, true, false, true≢false, Bool, cond, List, [], ◌∷◌, ◌++◌, length, ap, sym, ◌∙◌, subst, arith}
+use Rattle.std.proofs.Common.{◌≡◌, ⊎_elim, ℕ, suc, ◌<◌, ◌≤◌, true, false, Bool, cond, List, [], ◌∷◌, ◌++◌, length, ap, sym, ◌∙◌, subst, arith}
 use Rattle.span_key.specs.declared.scopes.Scope.{Scope}
-use Rattle.span_key.specs.declared.scopes.Scope.TheVariants.{Global, Local}
 use Rattle.latch_model.specs.Histories.{HeldLatch, Snapshot, comes_first, in_order, list_of, with_latch}
 use Rattle.latch_model.specs.declared.latch.Access.{Access}
 use Rattle.latch_model.specs.declared.latch.Access.TheVariants.{Read, Write}
@@ -12,7 +11,7 @@ use Rattle.latch_item.specs.Shape.{Among}
 use Rattle.read_list.proofs.Links.{list-stays}
 use Rattle.latch_shots.specs.Held.{held_as}
 use Rattle.held_latches.specs.Content.{AllApart, Content, EachOf, IsIn, held_of, items_in, placed_items, read_items}
-use Rattle.held_latches.specs.Holding.{EachHeld, Filed, HasSpare, Holds, HoldsFlushed, IsSound, Kept}
+use Rattle.held_latches.specs.Holding.{EachHeld, Filed, HasSpare, Holds, IsSound, Kept}
 use Rattle.held_latches.specs.Scopes.{Around, Flushing, aside_of, many_of}
 use Rattle.held_latches.specs.Steps.{PoolHas, SamePool, Stay, free_rows}
 use Rattle.held_latches.specs.Stock.{Placed, rows_of, tree_root}
@@ -22,7 +21,7 @@ use Rattle.held_latches.specs.declared.scopes.ScopeTrees.{ScopeTrees}
 use Rattle.row_pool.proofs.Chains.{mem-left, mem-right}
 use Rattle.held_latches.proofs.Contents.{each-append, each-map}
 use Rattle.held_latches.proofs.Stocks.{rows-append}
-use Rattle.held_latches.proofs.Scoped.{around, changed, content_of, each-in, lists-are, of_scope, other, scope-sound, sum-both, trees_of, with_scope}
+use Rattle.held_latches.proofs.Scoped.{around, changed, content_of, each-in, lists-are, other, scope-sound, sum-both, trees_of, with_scope}
 
 -- ---- what holds of each held latch holds of each item
 each_with : (P : HeldLatch → Type 0) (x : HeldLatch) (ys : List HeldLatch) → EachOf P (with_latch x ys) → P x × EachOf P ys
@@ -78,37 +77,19 @@ sound-flushed p q s t table c d a id o f none writer low = record {
     nothing : (x : Placed) → IsIn x d.pending → ⊥
     nothing x m = subst (IsIn x) none m
 
--- no read of a scope is pending any more, and of the other as many as before
-flushed-in : (scope : Scope) (h k : HeldLatches) (s : Snapshot) (n m : ℕ) (b : Bool)
-    (o : HoldsFlushed h s n m (of_scope scope false b) (of_scope scope b false)) (z : HasSpare k s n m) (d : Content) → content_of scope z.holds ≡ d
-    → d.pending ≡ [] → content_of (other scope) z.holds ≡ content_of (other scope) o.holds
-    → HoldsFlushed k s n m (of_scope scope true b) (of_scope scope b true)
-flushed-in Global h k s n m b o z d now none same = record {
-  holds = z.holds;
-  spare = z.spare;
-  no_global = λ e. ap (λ (c : Content). c.pending) now ∙ none;
-  no_local = λ e. ap (λ (c : Content). c.pending) same ∙ o.no_local e;
-}
-flushed-in Local h k s n m b o z d now none same = record {
-  holds = z.holds;
-  spare = z.spare;
-  no_global = λ e. ap (λ (c : Content). c.pending) same ∙ o.no_global e;
-  no_local = λ e. ap (λ (c : Content). c.pending) now ∙ none;
-}
-
 -- the held latches are the same while pending reads go into the tree
-pub flushed : (scope : Scope) (h : HeldLatches) (p : Pool) (t : ScopeTrees) (s : Snapshot) (n m id : ℕ) (b : Bool)
-    (o : HoldsFlushed h s n m (of_scope scope false b) (of_scope scope b false)) → EachHeld (λ x. x.by < id) s
+pub flushed : (scope : Scope) (h : HeldLatches) (p : Pool) (t : ScopeTrees) (s : Snapshot) (n m id : ℕ) (o : HasSpare h s n m)
+    → EachHeld (λ x. x.by < id) s
     → (d : Content) × Flushing h.pool p (trees_of scope h) t (content_of scope o.holds) d (around scope (trees_of (other scope) h)
     (content_of (other scope) o.holds)) × (d.pending ≡ []) → t.writer ≡ id → SamePool h.pool p
-    → HoldsFlushed (with_scope scope h h p t) s n m (of_scope scope true b) (of_scope scope b true)
-flushed scope h p t s n m id b o low (d, f, none) writer same =
+    → HasSpare (with_scope scope h h p t) s n m
+flushed scope h p t s n m id o low (d, f, none) writer same =
     let k = o.holds.kept in let g = o.holds.global in let l = o.holds.local in let c = content_of scope o.holds in
     let lists = lists-are scope h s n o.holds in
     let lows = each-item (λ x. x.by < id) (λ x. x.id < id) Read (list_of s scope Read) (read_items c) (λ y e. e) lists.reads
     (each-in (λ x. x.by < id) s scope Read low) in
     let long = ap (λ (ps : List Placed). length ps) none in let written = ap (λ (ts : List Row). length ts) f.writes.1 in
-    let (z, now, beside) = changed scope h h p t s s n m o.holds d (record {
+    (changed scope h h p t s s n m o.holds d (record {
       has = f.has;
       stay = f.stay;
       same = same;
@@ -122,11 +103,7 @@ flushed scope h p t s n m id b o low (d, f, none) writer same =
         writes = lists.writes ∙ ap (λ ts. in_order (held_of Write (items_in ts))) (sym f.writes.1);
       };
       lists_other = lists-are (other scope) h s n o.holds;
-    }) in
-    flushed-in scope h (with_scope scope h h p t) s n m b o z d now none beside
-
-pub not-flushed : (h : HeldLatches) (s : Snapshot) (n k : ℕ) → HasSpare h s n k → HoldsFlushed h s n k false false
-not-flushed h s n k o = record { holds = o.holds; spare = o.spare; no_global = λ e. absurd (true≢false (sym e)); no_local = λ e. absurd (true≢false (sym e)) }
+    })).0
 
 -- ---- rows come to the pool
 pub kept-more : (h : HeldLatches) (p : Pool) (g l : Content) → Kept h g l → PoolHas p (tree_root h.global.writes g.writes ∷ tree_root h.global.reads g.reads

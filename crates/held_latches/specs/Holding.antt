@@ -112,13 +112,6 @@ pub record HasSpare (h : HeldLatches) (s : Snapshot) (n k : ℕ) : Type 0 where
   pub holds : Holds h s n
   pub spare : aside_of holds.global + aside_of holds.local + k ≤ free_rows h.pool
 
--- The same, and no read is pending in a scope where one was wanted in the trees.
-pub record HoldsFlushed (h : HeldLatches) (s : Snapshot) (n k : ℕ) (global local : Bool) : Type 0 where
-  pub holds : Holds h s n
-  pub spare : aside_of holds.global + aside_of holds.local + k ≤ free_rows h.pool
-  pub no_global : global ≡ true → holds.global.pending ≡ []
-  pub no_local : local ≡ true → holds.local.pending ≡ []
-
 -- A held latch is of no place below j of the request, nor of the lane; no request has more than 16 latches.
 pub record Beside (id lane j : ℕ) (y : HeldLatch) : Type 0 where
   pub other_request : y.by ≡ id → j ≤ y.place

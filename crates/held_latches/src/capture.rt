@@ -9,7 +9,7 @@ ghost use Rattle.row_pool.specs.Trees.{Tree as Row};
 ghost use Rattle.latch_shots.specs.Roots.{Root};
 ghost use Rattle.latch_shots.specs.Shots.{AreShots, table_of};
 ghost use Rattle.latch_shots.specs.Shown.{root_of as shot_root};
-ghost use Rattle.held_latches.specs.Holding.{EachHeld, HasSpare, Holds, HoldsFlushed, InScopes, MayInsert, SameSizes, SameWriters};
+ghost use Rattle.held_latches.specs.Holding.{EachHeld, HasSpare, Holds, InScopes, MayInsert, SameSizes, SameWriters};
 ghost use Rattle.held_latches.specs.Holding.{WritesIn, table_of as held_table, writer_of};
 ghost use Rattle.held_latches.specs.Lists.{capture, inserted, own_from, shown_if, without_by};
 ghost use Rattle.held_latches.specs.Steps.{CanShow, PoolHas, SamePool, SameRows};
@@ -89,8 +89,7 @@ impl HeldLatches {
         requires table { held_table self.old ≡ rows.now }
         requires holds { (s : Snapshot) × (n : ℕ) × Holds self.old s n × EachHeld (λ x. x.by < id) s }
         ensures table { SameSizes self.old self.new }
-        ensures holds { (s : Snapshot) (n k : ℕ) (b : Bool) → HoldsFlushed self.old s n k false b → EachHeld (λ x. x.by < id) s
-            → HoldsFlushed self.new s n k wanted b }
+        ensures holds { (s : Snapshot) (n k : ℕ) → HasSpare self.old s n k → EachHeld (λ x. x.by < id) s → HasSpare self.new s n k }
         ensures writers { (writer_of self.new Global ≡ (if wanted then id else writer_of self.old Global))
             × (writer_of self.new Local ≡ writer_of self.old Local) }
     {
@@ -104,8 +103,7 @@ impl HeldLatches {
         requires table { held_table self.old ≡ rows.now }
         requires holds { (s : Snapshot) × (n : ℕ) × Holds self.old s n × EachHeld (λ x. x.by < id) s }
         ensures table { SameSizes self.old self.new }
-        ensures holds { (s : Snapshot) (n k : ℕ) (b : Bool) → HoldsFlushed self.old s n k b false → EachHeld (λ x. x.by < id) s
-            → HoldsFlushed self.new s n k b wanted }
+        ensures holds { (s : Snapshot) (n k : ℕ) → HasSpare self.old s n k → EachHeld (λ x. x.by < id) s → HasSpare self.new s n k }
         ensures writers { (writer_of self.new Global ≡ writer_of self.old Global)
             × (writer_of self.new Local ≡ (if wanted then id else writer_of self.old Local)) }
     {
@@ -119,7 +117,7 @@ impl HeldLatches {
         requires table { held_table self.old ≡ rows.now }
         requires holds { (s : Snapshot) × (n : ℕ) × Holds self.old s n × EachHeld (λ x. x.by < id) s }
         ensures table { SameSizes self.old self.new }
-        ensures holds { (s : Snapshot) (n k : ℕ) → HasSpare self.old s n k → EachHeld (λ x. x.by < id) s → HoldsFlushed self.new s n k global local }
+        ensures holds { (s : Snapshot) (n k : ℕ) → HasSpare self.old s n k → EachHeld (λ x. x.by < id) s → HasSpare self.new s n k }
         ensures writers { (writer_of self.new Global ≡ (if global then id else writer_of self.old Global))
             × (writer_of self.new Local ≡ (if local then id else writer_of self.old Local)) }
     {

@@ -16,8 +16,8 @@ flush-requires-clause-has c =
     )
 
 pub returns-then-wanted-clause-holds : goal.returns-then-wanted-clause-holds
-returns-then-wanted-clause-holds c = λ s n m b o low.
+returns-then-wanted-clause-holds c = λ s n m o low.
     let h = c.args.self.now in let k = o.holds.kept in
-    rw c.if-wanted.true (flushed Local h c.flush.new.pool c.flush.new.self s n m c.args.id b o low
+    flushed Local h c.flush.new.pool c.flush.new.self s n m c.args.id o low
     (c.flush.ensures.flushed o.holds.local (around Local h.global o.holds.global) (scope-has Local h o.holds.global o.holds.local k) k.sound_local.reads_apart
-    (let x = k.few in omega arith) (let x = k.set_aside in omega arith)) c.flush.ensures.writer c.flush.ensures.same)
+    (let x = k.few in omega arith) (let x = k.set_aside in omega arith)) c.flush.ensures.writer c.flush.ensures.same
