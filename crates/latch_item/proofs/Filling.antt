@@ -66,8 +66,8 @@ only-join v w x row a b = record {
   others = λ q n. b.others q n ∙ a.others q n;
 }
 
-pub puts-start : (v : SeatView) (row a : ℕ) (f : ℕ → ℕ) → Puts v v row a 0 f
-puts-start v row a f = record {
+pub puts-start : (v : SeatView) (row a n : ℕ) (f : ℕ → ℕ) → n ≡ 0 → Puts v v row a n f
+puts-start v row a n f none = record {
   only = only-same row v;
   put = λ e at. (e, at, record { kind = refl; own = refl; linked = refl; here = λ i low. absurd (omega arith); others = λ u no. refl });
 }
@@ -98,16 +98,16 @@ puts-join v w x row a b n m f g h next first later p q = record {
 }
 
 -- one more word
-pub puts-next : (v w x : SeatView) (row a i value : ℕ) (f : ℕ → ℕ) → value ≡ f i → Puts v w row a i f → Puts w x row (a + i) 1 (λ j. value)
-    → Puts v x row a (i + 1) f
-puts-next v w x row a i value f is p q =
-    puts-join v w x row a (a + i) i 1 f (λ j. value) f refl (λ j low. refl) (λ j low. is ∙ ap f (let z : i ≡ i + j = omega arith in z)) p q
+pub puts-next : (v w x : SeatView) (row a b i n value : ℕ) (f : ℕ → ℕ) → b ≡ a + i → n ≡ i + 1 → value ≡ f i → Puts v w row a i f
+    → Puts w x row b 1 (λ j. value) → Puts v x row a n f
+puts-next v w x row a b i n value f next more is p q = subst (λ n. Puts v x row a n f) (sym more)
+    (puts-join v w x row a b i 1 f (λ j. value) f next (λ j low. refl) (λ j low. is ∙ ap f (let z : i ≡ i + j = omega arith in z)) p q)
 
 -- behind a key's words all is 0
-pub puts-key : (v w x : SeatView) (row a i k : ℕ) (bytes : List ℕ) → i ≡ k → k ≤ 32 → length bytes ≤ k * 8 → Puts v w row a i (key_word bytes)
-    → Puts w x row (a + k) (32 - k) (λ j. 0) → Puts v x row a 32 (key_word bytes)
-puts-key v w x row a i k bytes is low enough p q = subst (λ n. Puts v x row a n (key_word bytes)) (let z : i + (32 - k) ≡ 32 = omega arith in z)
-    (puts-join v w x row a (a + k) i (32 - k) (key_word bytes) (λ j. 0) (key_word bytes) (omega arith) (λ j l. refl)
+pub puts-key : (v w x : SeatView) (row a i b m : ℕ) (bytes : List ℕ) → b ≡ a + i → i + m ≡ 32 → length bytes ≤ i * 8 → Puts v w row a i (key_word bytes)
+    → Puts w x row b m (λ j. 0) → Puts v x row a 32 (key_word bytes)
+puts-key v w x row a i b m bytes next all enough p q = subst (λ n. Puts v x row a n (key_word bytes)) all
+    (puts-join v w x row a b i m (key_word bytes) (λ j. 0) (key_word bytes) next (λ j l. refl)
     (λ j l. sym (word-is bytes (i + j) ∙ past-end ((i + j) * 8) bytes (omega arith))) p q)
 
 -- the row stays free

@@ -1,5 +1,5 @@
 // A free row becomes an item.
-ghost use Rattle.std.specs.Prelude.{◌≡◌, ◌≢◌, ℕ, ◌+◌, ◌≤◌, slice_index};
+ghost use Rattle.std.specs.Prelude.{◌≡◌, ◌≢◌, ℕ, ◌+◌, ◌-◌, ◌≤◌, slice_index};
 ghost use mathlib.Core.Option.{some};
 ghost use Rattle.row_pool.specs.Trees.{Entry};
 ghost use Rattle.row_pool.specs.SeatState.{OnlyEntryChanges, OnlyViewChanges};
@@ -77,19 +77,19 @@ fn put_bytes(rows: &Rows, seat: &mut RowSeat, row: u32, from: u32, bytes: &[u8])
         let value = key_word(bytes, i);
         put_word(rows, seat, row, from + i, value);
     }
-    put_zeros(rows, seat, row, from + words, 32 - words);
+    put_zeros(rows, seat, row, from + words, from + 32);
 }
 
-// The n words from `from` on get 0.
-fn put_zeros(rows: &Rows, seat: &mut RowSeat, row: u32, from: u32, n: u32)
-    requires place { (11 ≤ from) × (from + n ≤ 75) }
+// The words from `from` to `to`, which is excluded, get 0.
+fn put_zeros(rows: &Rows, seat: &mut RowSeat, row: u32, from: u32, to: u32)
+    requires place { (11 ≤ from) × (from ≤ to) × (to ≤ 75) }
     requires table { seat.old.table ≡ rows.now }
     requires free { (e : Entry) × (find row seat.old.view.owned ≡ some e) × (e.kind ≡ 0) }
     ensures same { OnlyViewChanges seat.old seat.new }
-    ensures put { Puts seat.old.view seat.new.view row from n (λ i. 0) }
+    ensures put { Puts seat.old.view seat.new.view row from (to - from) (λ i. 0) }
 {
-    for i in 0..n {
-        put_word(rows, seat, row, from + i, 0);
+    for word in from..to {
+        put_word(rows, seat, row, word, 0);
     }
 }
 
