@@ -17,7 +17,7 @@ use Rattle.latch_item.specs.Items.{Item, IsItemPlace, IsValid, OwnsItem, item_wo
 use Rattle.latch_item.specs.Puts.{Holds, Puts}
 use Rattle.latch_item.proofs.Bytes.{word-is, past-end}
 
-pub plain-place : (e : Entry) (w : ℕ) → e.kind ≡ 0 → IsItemPlace w → IsContent e.kind w
+plain-place : (e : Entry) (w : ℕ) → e.kind ≡ 0 → IsItemPlace w → IsContent e.kind w
 plain-place e w free p = plain-free e w free (let a = p.0 in omega arith) (let a = p.1 in omega arith)
 
 holds-written : (w n : ℕ) (e : Entry) → Holds w 1 (λ i. n) e (written w n e)
@@ -55,7 +55,7 @@ holds-join a b n m f g h e d k next first later p q = record {
   others = λ u no. q.others u (λ s t. no (omega arith) (omega arith)) ∙ p.others u (λ s t. no s (omega arith));
 }
 
-pub only-join : (v w x : SeatView) (row : ℕ) → OnlyEntryChanges row v w → OnlyEntryChanges row w x → OnlyEntryChanges row v x
+only-join : (v w x : SeatView) (row : ℕ) → OnlyEntryChanges row v w → OnlyEntryChanges row w x → OnlyEntryChanges row v x
 only-join v w x row a b = record {
   same_seat = record {
     number = b.same_seat.number ∙ a.same_seat.number;
@@ -90,7 +90,7 @@ puts-again v w x row a n f g p q = record {
   put = λ e at. let (d, there, y) = p.put e at in let (k, here, z) = q.put d there in (k, here, holds-again a n f g e d k y z);
 }
 
-pub puts-join : (v w x : SeatView) (row a b n m : ℕ) (f g h : ℕ → ℕ) → b ≡ a + n → ((i : ℕ) → i < n → f i ≡ h i) → ((i : ℕ) → i < m → g i ≡ h (n + i))
+puts-join : (v w x : SeatView) (row a b n m : ℕ) (f g h : ℕ → ℕ) → b ≡ a + n → ((i : ℕ) → i < n → f i ≡ h i) → ((i : ℕ) → i < m → g i ≡ h (n + i))
     → Puts v w row a n f → Puts w x row b m g → Puts v x row a (n + m) h
 puts-join v w x row a b n m f g h next first later p q = record {
   only = only-join v w x row p.only q.only;
@@ -111,7 +111,7 @@ puts-key v w x row a i b m bytes next all enough p q = subst (λ n. Puts v x row
     (λ j l. sym (word-is bytes (i + j) ∙ past-end ((i + j) * 8) bytes (omega arith))) p q)
 
 -- the row stays free
-pub still-free : (v w : SeatView) (row a n : ℕ) (f : ℕ → ℕ) → (e : Entry) × (find row v.owned ≡ some e) × (e.kind ≡ 0) → Puts v w row a n f
+still-free : (v w : SeatView) (row a n : ℕ) (f : ℕ → ℕ) → (e : Entry) × (find row v.owned ≡ some e) × (e.kind ≡ 0) → Puts v w row a n f
     → (d : Entry) × (find row w.owned ≡ some d) × (d.kind ≡ 0)
 still-free v w row a n f free p = let (d, there, h) = p.put free.0 free.1 in (d, there, h.kind ∙ free.2)
 
@@ -133,6 +133,7 @@ stored v w x row word n m free place p is =
     puts-again v w x row word 1 (λ i. n) (λ i. m) p (puts-is w x row word m d.0 d.1 (is (λ z. let a = place.0 in omega arith)))
 
 -- ---- the item
+-- a word of the head, of the key's part and of the end's part
 head-word : (x : Item) (kl el i : ℕ) → kl ≡ length x.span.0 → el ≡ length x.span.1 → i < 7
     → slice_index (x.id ∷ x.place ∷ x.lane ∷ x.stamp.wall ∷ x.stamp.logical ∷ kl ∷ el ∷ []) i ≡ item_word x (2 + i)
 head-word x kl el zero k e h = refl

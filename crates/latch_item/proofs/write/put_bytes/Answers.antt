@@ -10,8 +10,9 @@ pub loop-i-preserved : goal.loop-i-preserved
 loop-i-preserved c = record {
   table = c.put_word.ensures.same.0 ∙ c.loop-i.invariant.table;
   follows = c.put_word.ensures.same.1 ∙ c.loop-i.invariant.follows;
-  puts = puts-next c.args.seat.now.view c.loop-i.seat.view c.put_word.new.seat.view c.args.row c.args.from (c.args.from + c.loop-i.i) c.loop-i.i (c.loop-i.i + 1) c.key_word-value.result
-      (key_word c.args.bytes.now) refl refl c.key_word-value.ensures c.loop-i.invariant.puts c.put_word.ensures.put;
+  puts = puts-next c.args.seat.now.view c.loop-i.seat.view c.put_word.new.seat.view c.args.row c.args.from (c.args.from + c.loop-i.i) c.loop-i.i
+      (c.loop-i.i + 1) c.key_word-value.result (key_word c.args.bytes.now) refl refl c.key_word-value.ensures c.loop-i.invariant.puts
+      c.put_word.ensures.put;
 }
 
 pub returns-clause-put : goal.returns-clause-put

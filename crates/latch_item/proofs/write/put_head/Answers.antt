@@ -9,6 +9,6 @@ pub loop-i-preserved : goal.loop-i-preserved
 loop-i-preserved c = record {
   table = c.put_word.ensures.same.0 ∙ c.loop-i.invariant.table;
   follows = c.put_word.ensures.same.1 ∙ c.loop-i.invariant.follows;
-  puts = puts-next c.args.seat.now.view c.loop-i.seat.view c.put_word.new.seat.view c.args.row 2 (2 + c.loop-i.i) c.loop-i.i (c.loop-i.i + 1) (slice_index c.args.head.now c.loop-i.i)
-      (slice_index c.args.head.now) refl refl refl c.loop-i.invariant.puts c.put_word.ensures.put;
+  puts = puts-next c.args.seat.now.view c.loop-i.seat.view c.put_word.new.seat.view c.args.row 2 (2 + c.loop-i.i) c.loop-i.i (c.loop-i.i + 1)
+      (slice_index c.args.head.now c.loop-i.i) (slice_index c.args.head.now) refl refl refl c.loop-i.invariant.puts c.put_word.ensures.put;
 }
