@@ -1,7 +1,8 @@
 -- Shots of both scopes' trees.
-use Rattle.std.proofs.Common.{◌≡◌, ℕ, ◌+◌, ◌*◌, ◌<◌, ◌≤◌, true, false, Bool, if◌then◌else◌, List, [], ◌∷◌, ◌++◌, length, ap, sym, refl, ◌∙◌, subst, arith}
+use Rattle.std.proofs.Common.{◌≡◌, ℕ, ◌+◌, ◌*◌, ◌<◌, ◌≤◌, true, false, Bool, if◌then◌else◌, nat_lt, zero, suc, List, [], ◌∷◌, ◌++◌, length, ap, sym, refl, ◌∙◌, subst, arith}
 use Rattle.std.specs.Prelude.{Option, None, Some}
 use Rattle.std.specs.List.{All}
+use Rattle.std.proofs.lemmas.Bool.Decides.{nat_tests}
 use Rattle.std.proofs.lemmas.List.{append_assoc, length-append}
 use Rattle.std.proofs.lemmas.List.Elements.{All-nil}
 use Rattle.latch_model.specs.Histories.{HeldLatch, Snapshot, in_order}
@@ -211,3 +212,23 @@ writes-in h id v w global local eg el = (λ e. eg ∙ ap (λ b. if b then id els
 pub each-upto : (id : ℕ) (xs : List HeldLatch) → EachOf (λ x. x.by < id) xs → EachOf (λ x. x.by ≤ id) xs
 each-upto id [] h = tt
 each-upto id (x ∷ xs) h = (let low = h.0 in omega arith, each-upto id xs h.1)
+
+-- ---- of a tree without items no shot is taken, since nothing is captured of it
+pub some-captured : (many : ℕ) (xs : List HeldLatch) → many ≡ length xs → taken_if (nat_lt 0 many) xs ≡ xs
+some-captured many [] is = if-nil (nat_lt 0 many)
+  where
+    if-nil : (some : Bool) → taken_if some [] ≡ []
+    if-nil true = refl
+    if-nil false = refl
+some-captured zero (x ∷ xs) is = absurd (omega arith)
+some-captured (suc m) (x ∷ xs) is = let some : nat_lt 0 (suc m) ≡ true = grind (arith, nat_tests) in rw some refl
+
+pub same-captured : (global global_too global_write local local_too local_write : Bool) (s : Snapshot)
+    → taken_if global s.global_writes ≡ taken_if global_too s.global_writes → taken_if local s.local_writes ≡ taken_if local_too s.local_writes
+    → shown_if global global_write local local_write s ≡ shown_if global_too global_write local_too local_write s
+same-captured global global_too global_write local local_too local_write s g l = λ i. record {
+  global_reads = taken_if global_write s.global_reads;
+  global_writes = g i;
+  local_reads = taken_if local_write s.local_reads;
+  local_writes = l i;
+}

@@ -1,8 +1,8 @@
 // What a request captures.
 ghost use Rattle.std.specs.Prelude.{◌≡◌, ℕ, suc, ◌+◌, ◌<◌, ◌≤◌, ◌&&◌, if◌then◌else◌, List, [], ◌∷◌, ◌++◌, length, take, Bool, true, false};
 ghost use Rattle.std.specs.List.{list_any};
-ghost use Rattle.latch_model.specs.Histories.{Snapshot, captures};
-ghost use Rattle.latch_model.specs.declared.latch.Access.TheVariants.{Read};
+ghost use Rattle.latch_model.specs.Histories.{Snapshot, captures, list_of};
+ghost use Rattle.latch_model.specs.declared.latch.Access.TheVariants.{Read, Write};
 ghost use Rattle.span_key.specs.declared.scopes.Scope.TheVariants.{Global, Local};
 ghost use Rattle.latch_model.specs.Latches.{in_scope, writes};
 ghost use Rattle.row_pool.specs.Trees.{Tree as Row};
@@ -11,7 +11,7 @@ ghost use Rattle.latch_shots.specs.Shots.{AreShots, table_of};
 ghost use Rattle.latch_shots.specs.Shown.{root_of as shot_root};
 ghost use Rattle.held_latches.specs.Holding.{EachHeld, HasSpare, Holds, InScopes, MayInsert, SameSizes, SameWriters};
 ghost use Rattle.held_latches.specs.Holding.{WritesIn, table_of as held_table, writer_of};
-ghost use Rattle.held_latches.specs.Lists.{capture, inserted, own_from, shown_if, without_by};
+ghost use Rattle.held_latches.specs.Lists.{capture, inserted, own_from, shown_if, taken_if, without_by};
 ghost use Rattle.held_latches.specs.Steps.{CanShow, PoolHas, SamePool, SameRows};
 ghost use Rattle.held_latches.specs.Stock.{Placed, tree_root, with_row};
 
@@ -84,6 +84,17 @@ fn add_root(roots: &mut [u32; 4], n: usize, shot: &Shot) -> usize
 }
 
 impl HeldLatches {
+    // Whether a request of these latches gets a shot of the writes of this scope. Of a tree without items it gets none: nothing is captured of it, and once the
+    // request's own latches have come the shot would show just these.
+    fn shows_writes(&self, latches: &[Latch], scope: Scope) -> bool
+        requires { (s : Snapshot) × (n : ℕ) × Holds self.now s n }
+        ensures { (s : Snapshot) (n : ℕ) → Holds self.now s n
+            → taken_if result (list_of s scope Write) ≡ taken_if (captures latches.now scope Write) (list_of s scope Write) }
+    {
+        let there_are = self.counts(scope).write > 0;
+        has_any(latches, scope) && there_are
+    }
+
     // Where it is wanted, the pending reads of the global scope go into its tree, since the request of this number captures them.
     fn flush_global(&mut self, rows: &Rows, id: u64, wanted: bool)
         requires table { held_table self.old ≡ rows.now }
@@ -170,7 +181,7 @@ impl HeldLatches {
     /// none. 13 rows for each of its own are free, and no others are used.
     ///
     /// The pending reads of each scope where it writes go into the tree first, then its own latches come, and the shots are taken last, so that no shot of its
-    /// own has it copy a node. What it captured is what its shots show but for its own latches.
+    /// own has it copy a node. What it captured is what its shots show but for its own latches. Of a tree that had no items it takes no shot.
     pub fn begin(
         &mut self,
         rows: &Rows,
@@ -190,9 +201,9 @@ impl HeldLatches {
         ensures shots { (s : Snapshot) (n more : ℕ) → MayInsert self.old s n more id lane (length own.now) → EachHeld (λ x. x.by < id) s → n < 65536
             → InScopes s → AreShots result (capture latches.now s) }
     {
-        let global = has_any(latches, Scope::Global);
+        let global = self.shows_writes(latches, Scope::Global);
         let global_write = has_write(latches, Scope::Global);
-        let local = has_any(latches, Scope::Local);
+        let local = self.shows_writes(latches, Scope::Local);
         let local_write = has_write(latches, Scope::Local);
         self.flush(rows, id, global_write, local_write);
         self.insert(rows, id, lane, own);

@@ -529,9 +529,7 @@ impl Rows {
             .shared
             .load::<PublishCounted>(&mut seat.seat, count);
         if found != 1 {
-            self.table
-                .shared
-                .store::<Publish>(&mut seat.seat, count, 1);
+            self.table.shared.store::<Publish>(&mut seat.seat, count, 1);
         }
     }
 

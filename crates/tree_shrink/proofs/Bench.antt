@@ -1,5 +1,5 @@
 -- What a seat works on: the nodes that it owns, its references, and the chain, from a first view on.
-use Rattle.std.proofs.Common.{List, [], ap, arith, false, length, refl, subst, sym, ℕ, ◌++◌, ◌+◌, ◌∙◌, ◌∷◌, ◌≡◌, ◌≢◌, ◌≤◌}
+use Rattle.std.proofs.Common.{List, [], ap, arith, false, length, refl, subst, sym, ℕ, ◌++◌, ◌+◌, ◌∷◌, ◌≡◌, ◌≢◌, ◌≤◌}
 use Rattle.row_pool.proofs.Chains.{mem-neither}
 use Rattle.row_pool.specs.Chains.{ChainGrows, IsChain}
 use Rattle.row_pool.specs.Lists.{mem}

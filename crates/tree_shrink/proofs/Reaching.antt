@@ -1,5 +1,5 @@
 -- The seat reaches each item below a root that it owns, and what a root without items leaves.
-use Rattle.std.proofs.Common.{List, [], ap, arith, inl, inr, length, length-append, refl, replicate, subst, suc, sym}
+use Rattle.std.proofs.Common.{List, [], ap, arith, inl, inr, length, refl, replicate, subst, suc, sym}
 use Rattle.std.proofs.Common.{zero, ℕ, ⊎_elim, ◌++◌, ◌+◌, ◌-◌, ◌<◌, ◌^◌, ◌∙◌, ◌∷◌, ◌≡◌, ◌≤◌, ◌⊎◌}
 use Rattle.std.proofs.lemmas.Bool.Decides.{eqb_tells}
 use Rattle.std.specs.Prelude.{Some}

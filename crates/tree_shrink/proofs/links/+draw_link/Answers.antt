@@ -1,4 +1,4 @@
-use Rattle.std.proofs.Common.{arith, ◌-◌, ◌∙◌, ◌≡◌}
+use Rattle.std.proofs.Common.{arith, ◌≡◌}
 use Rattle.tree_shrink.proofs.Gaps.{all-drawn, draw-last, draw-next, draw-swap, drawn-last}
 use Rattle.tree_shrink.proofs.links.+draw_link.Goals as goal
 

@@ -1,9 +1,9 @@
-use Rattle.std.proofs.Common.{List, ap, arith, length, refl, subst, sym, ℕ, ◌++◌, ◌-◌, ◌<◌, ◌∙◌, ◌∷◌, ◌≡◌}
+use Rattle.std.proofs.Common.{List, ap, arith, length, subst, sym, ℕ, ◌++◌, ◌-◌, ◌<◌, ◌∙◌, ◌∷◌, ◌≡◌}
 use Rattle.row_pool.specs.Trees.{Tree, nil, tree_word}
 use Rattle.interval_tree.proofs.Rows.{back-cons}
 use Rattle.interval_tree.specs.Held.{OwnsNode}
 use Rattle.interval_tree.specs.Nodes.{kind_at}
-use Rattle.tree_shrink.proofs.Seams.{closed-items, closed-kids, closed-place, closed_front, item_back, item_front, items_behind, kid_back, seam-item}
+use Rattle.tree_shrink.proofs.Seams.{closed-items, closed-kids, closed-place, closed_front, item_front, items_behind, kid_back, seam-item}
 use Rattle.tree_shrink.specs.Slots.{Seam, cut_links, seam_links}
 use Rattle.tree_shrink.proofs.links.cut_item.Goals as goal
 use Rattle.tree_shrink.proofs.links.cut_item.Goals.{After-draw_link-item, After-close_children}

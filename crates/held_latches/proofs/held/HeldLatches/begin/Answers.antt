@@ -1,9 +1,11 @@
-use Rattle.std.proofs.Common.{ℕ, ◌+◌, ◌*◌, ◌<◌, length, sym, ◌∙◌}
+use Rattle.std.proofs.Common.{ℕ, ◌+◌, ◌*◌, ◌<◌, length, subst, sym, ◌∙◌}
 use Rattle.span_key.specs.declared.scopes.Scope.TheVariants.{Global, Local}
-use Rattle.latch_model.specs.Histories.{Snapshot}
+use Rattle.latch_model.specs.Histories.{Snapshot, captures}
+use Rattle.latch_model.specs.declared.latch.Access.TheVariants.{Read, Write}
+use Rattle.latch_shots.specs.Shots.{AreShots}
 use Rattle.held_latches.specs.Holding.{EachHeld, MayInsert, writer_of}
 use Rattle.held_latches.specs.Lists.{inserted, own_from}
-use Rattle.held_latches.proofs.Capturing.{come-flushed, each-upto, writes-in}
+use Rattle.held_latches.proofs.Capturing.{come-flushed, each-upto, same-captured, writes-in}
 use Rattle.held_latches.proofs.Own.{each-own, without-own}
 use Rattle.held_latches.proofs.held.HeldLatches.begin.Goals as goal
 use Rattle.held_latches.proofs.held.HeldLatches.begin.Goals.{After-flush, After-insert}
@@ -32,7 +34,11 @@ returns-clause-holds c = λ s n more may low few.
 pub returns-clause-shots : goal.returns-clause-shots
 returns-clause-shots c = λ s n more may low few scopes.
     let id = c.args.id in let own = c.args.own.now in let old = c.args.self.now in let flushed = c.flush.ensures in let come = c.insert.ensures in
-    rw (sym c.has_any-global.ensures, sym c.has_write-global_write.ensures, sym c.has_any-local.ensures, sym c.has_write-local_write.ensures)
+    let ls = c.args.latches.now in let g = c.shows_writes-global.result in let l = c.shows_writes-local.result in
+    subst (AreShots c.take_shots.result)
+    (same-captured g (captures ls Global Write) (captures ls Global Read) l (captures ls Local Write) (captures ls Local Read) s
+    (c.shows_writes-global.ensures s n may.has.holds) (c.shows_writes-local.ensures s n may.has.holds))
+    (rw (sym c.has_write-global_write.ensures, sym c.has_write-local_write.ensures)
     (c.take_shots.ensures.shots (inserted (own_from id c.args.lane 0 own) s) s n more
     (come.held s n more (own_come (goal.at.returns-clause-shots c).After-flush s n more may low)) few
     (each-own id c.args.lane 0 own s (
@@ -43,4 +49,4 @@ returns-clause-shots c = λ s n more may low few scopes.
     ))
     (writes-in c.insert.new.self id (writer_of old Global) (writer_of old Local) c.has_write-global_write.result c.has_write-local_write.result
     (come.writers.0 ∙ flushed.writers.0) (come.writers.1 ∙ flushed.writers.1))
-    (without-own id c.args.lane 0 own s low) scopes)
+    (without-own id c.args.lane 0 own s low) scopes))
