@@ -16,3 +16,4 @@ pub mod Refusals
 pub mod Acquired
 pub mod Owning
 pub mod Closing
+pub mod LegalSizes

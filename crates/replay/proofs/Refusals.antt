@@ -6,11 +6,11 @@ use Rattle.sequence_core.specs.Says.{DeskState, LacksRows}
 use Rattle.sequence_core.specs.declared.fault.SeqFault.{SeqFault}
 use Rattle.signal_board.specs.Says.{PassSays}
 use Rattle.step_run.specs.Faults.{StopsBy, fault_of}
+use Rattle.step_run.specs.Runs.{HasProgramRoom}
 use Rattle.step_run.specs.declared.fault.RunFault.{RunFault}
 use Rattle.step_run.proofs.Stopping.{finds_place, lacks_rows}
 use Rattle.latch_manager.specs.Declining.{Declined}
 use Rattle.latch_manager.specs.Making.{Made}
-use Rattle.replay.specs.Running.{program_sizes}
 
 module _ (made : Made) (old : PassSays) (mode : Mode) (request : Declaration) (fault : SeqFault) (new : PassSays)
     (d : Declined made old mode request fault new) where
@@ -19,7 +19,7 @@ module _ (made : Made) (old : PassSays) (mode : Mode) (request : Declaration) (f
   refuser = record { core = made.core; sizes = made.sizes; log = d.log; given = d.given; free = d.free }
 
   -- there was place for its latches
-  pub declined_at_place : made.sizes ≡ program_sizes → length request.latches ≤ 16 → IsSome (fault_of fault)
+  pub declined_at_place : HasProgramRoom made.sizes → length request.latches ≤ 16 → IsSome (fault_of fault)
   unfolding refuser
   declined_at_place sizes few = finds_place refuser mode request.latches fault sizes few d.refuses
 

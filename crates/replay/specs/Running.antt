@@ -2,7 +2,6 @@
 use Rattle.std.specs.Prelude.{◌≡◌, ◌≢◌, ℕ, zero, suc, ◌+◌, ◌==◌, ◌≤◌, Bool, false, List, [], ◌∷◌, ◌++◌, Option, Some, None, IfSome, length, map}
 use Rattle.std.specs.Prelude.{slice_get, take}
 use Rattle.atomic_table.specs.Seated.{TableId}
-use Rattle.latch_model.specs.declared.history.Sizes.{Sizes}
 use Rattle.latch_model.specs.declared.latch.Latch.{Latch}
 use Rattle.latch_model.specs.declared.latch.Mode.{Mode}
 use Rattle.latch_model.specs.declared.latch.Policy.{Policy}
@@ -16,10 +15,8 @@ use Rattle.signal_board.specs.Says.{PassSays}
 use Rattle.waiter.specs.Says.{CoreId}
 use Rattle.replay.specs.Blocks.{GrowsBy, LiveName, blocks_until, new_block}
 use Rattle.replay.specs.Sessions.{Hand, Idle, Standing, TurnsOf}
-
 -- The sizes at which the program runs a script.
-abbrev pub program_sizes : Sizes
-program_sizes = record { latches = 1024; lanes = 64; rows = 98304 }
+pub use Rattle.step_run.specs.Runs.{program_sizes}
 
 -- A pass of a new desk: it has no entry yet, and was shown none.
 abbrev pub Fresh : TableId → PassSays → Type 0

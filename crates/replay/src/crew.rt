@@ -3,7 +3,8 @@ ghost use Rattle.std.specs.Prelude.{◌≡◌, ◌<◌, ◌^◌, All, length, ma
 ghost use Rattle.std.specs.Thread.{IsSync};
 ghost use Rattle.script.specs.Scripts.{IsScript};
 ghost use Rattle.step_run.specs.Faults.{ScriptLacks, StopsBy};
-ghost use Rattle.replay.specs.Running.{FollowsIn, Fresh, Rested, program_sizes, whos};
+ghost use Rattle.step_run.specs.Runs.{HasProgramRoom};
+ghost use Rattle.replay.specs.Running.{FollowsIn, Fresh, Rested, whos};
 
 use crate::session::run_session;
 use latch_manager::gate::Gate;
@@ -27,7 +28,7 @@ pub(crate) fn crew<N: Making + Send + Sync, G: Gate, R: Threads + Wait + Sync>(
 ) -> Result<(), RunFault>
     requires script { IsScript commands.now }
     requires few { length commands.now < 2 ^ 31 }
-    requires sizes { N.made.sizes ≡ program_sizes }
+    requires sizes { HasProgramRoom N.made.sizes }
     requires fresh { All (Fresh N.made.core.signals) passes.old }
     ensures whos { whos passes.new ≡ whos passes.old }
     ensures rested { All (Rested N.made.core.signals) passes.new }
@@ -41,7 +42,7 @@ pub(crate) fn crew<N: Making + Send + Sync, G: Gate, R: Threads + Wait + Sync>(
     let (first, second) = join_mut(
         rt,
         &mut ||
-            requires { IsSync R.row × IsSync N.row × IsSync G.row × IsScript commands.now × (length commands.now < 2 ^ 31) × (N.made.sizes ≡ program_sizes)
+            requires { IsSync R.row × IsSync N.row × IsSync G.row × IsScript commands.now × (length commands.now < 2 ^ 31) × HasProgramRoom N.made.sizes
                 × All (Fresh N.made.core.signals) front.now }
             ensures whos { whos front.exit.now ≡ whos front.entry.now }
             ensures rested { All (Rested N.made.core.signals) front.exit.now }
@@ -49,7 +50,7 @@ pub(crate) fn crew<N: Making + Send + Sync, G: Gate, R: Threads + Wait + Sync>(
             ensures stops { IfErr result (StopsBy (ScriptLacks commands.entry.now)) }
         { crew(rt, alloc, commands, manager, front, gate) },
         &mut ||
-            requires { IsSync R.row × IsSync N.row × IsSync G.row × IsScript commands.now × (length commands.now < 2 ^ 31) × (N.made.sizes ≡ program_sizes)
+            requires { IsSync R.row × IsSync N.row × IsSync G.row × IsScript commands.now × (length commands.now < 2 ^ 31) × HasProgramRoom N.made.sizes
                 × All (Fresh N.made.core.signals) back.now }
             ensures whos { whos back.exit.now ≡ whos back.entry.now }
             ensures rested { All (Rested N.made.core.signals) back.exit.now }
@@ -71,7 +72,7 @@ fn alone<N: Making, G: Gate, R: Wait>(
 ) -> Result<(), RunFault>
     requires script { IsScript commands.now }
     requires few { length commands.now < 2 ^ 31 }
-    requires sizes { N.made.sizes ≡ program_sizes }
+    requires sizes { HasProgramRoom N.made.sizes }
     requires fresh { All (Fresh N.made.core.signals) passes.old }
     requires one { length passes.old < 2 }
     ensures whos { whos passes.new ≡ whos passes.old }

@@ -9,10 +9,11 @@ ghost use Rattle.script.specs.declared.command.Command.{Command as IsCommand};
 ghost use Rattle.script.specs.declared.command.Command.TheVariants.{Check as is_check_of, Poison as is_poison_of, Release as is_release_of};
 ghost use Rattle.sequence_core.specs.Says.{LacksRows};
 ghost use Rattle.step_run.specs.Faults.{StopsBy};
+ghost use Rattle.step_run.specs.Runs.{HasProgramRoom};
 ghost use Rattle.signal_board.specs.Rule.{open_count};
 ghost use Rattle.signal_board.specs.Views.{PassView};
 ghost use Rattle.replay.specs.Blocks.{GrowsBy, new_block};
-ghost use Rattle.replay.specs.Running.{Keeps, SomeTurns, program_sizes};
+ghost use Rattle.replay.specs.Running.{Keeps, SomeTurns};
 ghost use Rattle.replay.specs.Sessions.{HandAt, HandGiven, PatienceOf, Standing, TurnsOf};
 ghost use Rattle.replay.specs.declared.hand.Hand.TheVariants.{Idle, Checking as is_checking, Holding as is_holding, Over as is_over};
 
@@ -44,7 +45,7 @@ pub(crate) fn acquire<N: Making, R: Wait>(
     request: Request,
     turns: Option<u32>,
 ) -> Result<Hand, RunFault>
-    requires sizes { N.made.sizes ≡ program_sizes }
+    requires sizes { HasProgramRoom N.made.sizes }
     requires few { length request.latches ≤ LIMIT }
     requires table { pass.old.table ≡ N.made.core.signals }
     requires idle { open_count pass.old.p.mine ≡ 0 }
@@ -72,7 +73,7 @@ fn acquire_with<N: Making, R: Wait, P: Patience>(
     request: Request,
     patience: &mut P,
 ) -> Result<Hand, RunFault>
-    requires sizes { N.made.sizes ≡ program_sizes }
+    requires sizes { HasProgramRoom N.made.sizes }
     requires few { length request.latches ≤ LIMIT }
     requires table { pass.old.table ≡ N.made.core.signals }
     requires idle { open_count pass.old.p.mine ≡ 0 }
@@ -103,7 +104,7 @@ pub(crate) fn look<N: Making, R: Wait>(
     request: Request,
     turns: Option<u32>,
 ) -> Result<Hand, RunFault>
-    requires sizes { N.made.sizes ≡ program_sizes }
+    requires sizes { HasProgramRoom N.made.sizes }
     requires few { length request.latches ≤ LIMIT }
     requires table { pass.old.table ≡ N.made.core.signals }
     requires idle { open_count pass.old.p.mine ≡ 0 }
@@ -131,7 +132,7 @@ fn look_with<N: Making, R: Wait, P: Patience>(
     request: Request,
     patience: &mut P,
 ) -> Result<Hand, RunFault>
-    requires sizes { N.made.sizes ≡ program_sizes }
+    requires sizes { HasProgramRoom N.made.sizes }
     requires few { length request.latches ≤ LIMIT }
     requires table { pass.old.table ≡ N.made.core.signals }
     requires idle { open_count pass.old.p.mine ≡ 0 }
@@ -161,7 +162,7 @@ pub(crate) fn optimistic<N: Making, R: Wait>(
     pass: &mut Pass,
     request: Request,
 ) -> Result<Hand, RunFault>
-    requires sizes { N.made.sizes ≡ program_sizes }
+    requires sizes { HasProgramRoom N.made.sizes }
     requires few { length request.latches ≤ LIMIT }
     requires table { pass.old.table ≡ N.made.core.signals }
     requires idle { open_count pass.old.p.mine ≡ 0 }

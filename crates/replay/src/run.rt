@@ -1,12 +1,14 @@
 // A script run by sessions on threads of their own, on one desk.
-ghost use Rattle.std.specs.Prelude.{◌≡◌, ℕ, false, All, List, length, IfErr, IfOk, OnOk};
+ghost use Rattle.std.specs.Prelude.{◌≡◌, ℕ, false, All, List, length, IfErr, IfOk, None, OnOk};
 ghost use Rattle.latch_model.specs.Histories.{is_open};
 ghost use Rattle.latch_model.specs.Legal.{IsLegal};
 ghost use Rattle.script.specs.Follows.{FollowsScript};
 ghost use Rattle.script.specs.Scripts.{IsScript};
 ghost use Rattle.script.specs.declared.command.Command.{Command};
-ghost use Rattle.sequence_core.specs.Says.{AreFresh, RefusesNew};
+ghost use Rattle.sequence_core.specs.Bounds.{bad_size};
+ghost use Rattle.sequence_core.specs.Says.{AreFresh};
 ghost use Rattle.step_run.specs.Faults.{ScriptLacks, StopsBy};
+ghost use Rattle.step_run.specs.Runs.{HasProgramRoom};
 ghost use Rattle.waiter.specs.Says.{id_of};
 ghost use Rattle.replay.specs.Running.{FollowsIn, Fresh, Rested, lane_numbers, program_sizes, whos};
 
@@ -22,15 +24,9 @@ use std::alloc::Global;
 use std::marker::Brand;
 use std::sync::Wait;
 use std::thread::Threads;
-use step_run::RunFault;
+pub use step_run::PROGRAM_SIZES;
+use step_run::{FIRST_SIZES, RunFault};
 use waiter::Core;
-
-/// The sizes at which the program runs a script: 1,024 latches, 64 lanes and 98,304 rows.
-pub const PROGRAM_SIZES: Sizes = Sizes {
-    latches: 1024,
-    lanes: 64,
-    rows: 98304,
-};
 
 /// Runs each session's commands in their order, in a worker of its own, and waits for all of them; where a worker can't be started, the caller runs that
 /// session itself. Session w uses the pass with number w, and a request's tag is the number of the line that opened it. A session to which rows or memory are
@@ -44,7 +40,7 @@ pub fn sessions<N: Making + Send + Sync, G: Gate, R: Threads + Wait + Sync>(
     passes: &mut [Pass],
     gate: &G,
 ) -> Result<(), RunFault>
-    requires sizes { N.made.sizes ≡ program_sizes }
+    requires sizes { HasProgramRoom N.made.sizes }
     requires passes { AreFresh N.made.core.signals 64 passes.old }
     ensures whos { whos passes.new ≡ whos passes.old }
     ensures rested { All (Rested N.made.core.signals) passes.new }
@@ -66,7 +62,7 @@ fn within<N: Making + Send + Sync, G: Gate, R: Threads + Wait + Sync>(
 ) -> (Core, Desk, Result<(), RunFault>)
     requires core { (id_of core ≡ N.made.core) × (core.board.sizes ≡ N.made.sizes) }
     requires desk { (desk.core ≡ N.made.core) × (desk.sizes ≡ N.made.sizes) }
-    requires sizes { N.made.sizes ≡ program_sizes }
+    requires sizes { HasProgramRoom N.made.sizes }
     requires passes { AreFresh N.made.core.signals 64 passes.old.items }
     ensures core { (id_of result.0 ≡ N.made.core) × (result.0.board.sizes ≡ N.made.sizes) }
     ensures desk { (result.1.core ≡ N.made.core) × (result.1.sizes ≡ N.made.sizes) }
@@ -83,7 +79,8 @@ fn within<N: Making + Send + Sync, G: Gate, R: Threads + Wait + Sync>(
 
 /// Runs a script with a worker for each session. The history that comes out is legal, no request of it is open, and it follows the script: each session's
 /// entries are those of its commands, in their order, and no entry is of another. Too few rows are answered only where an opening of the script needs more
-/// than were free.
+/// than were free: a script to which rows are refused is run again from its start, on the program's whole pool, and its gate meets the lines again. No rule on
+/// histories asks for rows, so the history is given the program's sizes in both cases.
 pub fn replay<G: Gate, R: Threads + Wait + Sync>(
     rt: &R,
     alloc: Global,
@@ -96,8 +93,31 @@ pub fn replay<G: Gate, R: Threads + Wait + Sync>(
     ensures follows { IfOk result (λ h. FollowsScript h.entries script.now) }
     ensures stops { IfErr result (StopsBy (ScriptLacks script.now)) }
 {
-    match Desk::new(alloc, PROGRAM_SIZES) {
-        Err(fault) => refused(fault),
+    match replay_on(rt, alloc, script, gate, FIRST_SIZES) {
+        Err(RunFault::RowsOut { .. }) => replay_on(rt, alloc, script, gate, PROGRAM_SIZES),
+        answered => answered,
+    }
+}
+
+// One run on a desk of these sizes.
+fn replay_on<G: Gate, R: Threads + Wait + Sync>(
+    rt: &R,
+    alloc: Global,
+    script: &Script,
+    gate: &G,
+    sizes: Sizes,
+) -> Result<History, RunFault>
+    requires room { HasProgramRoom sizes }
+    requires bounds { bad_size sizes ≡ None }
+    ensures sizes { IfOk result (λ h. h.sizes ≡ program_sizes) }
+    ensures legal { IfOk result (λ h. IsLegal h.entries h.sizes) }
+    ensures closed { IfOk result (λ h. (id : ℕ) → is_open h.entries id ≡ false) }
+    ensures follows { IfOk result (λ h. FollowsScript h.entries script.now) }
+    ensures stops { IfErr result (StopsBy (ScriptLacks script.now)) }
+{
+    match Desk::new(alloc, sizes) {
+        Err(NewFault::Memory) => Err(RunFault::Memory),
+        Err(NewFault::BadSizes { which: _ }) => unreachable!(),
         Ok((core, desk, mut passes)) => {
             let _keeps_the_rules = script.commands();
             let (core, desk, ran) = within::<Brand, G, R>(
@@ -118,22 +138,10 @@ pub fn replay<G: Gate, R: Threads + Wait + Sync>(
     }
 }
 
-// A desk of the program's sizes isn't made for want of memory alone.
-fn refused(fault: NewFault) -> Result<History, RunFault>
-    requires { RefusesNew program_sizes fault }
-    ensures no_history { IfOk result (λ _. ⊥) }
-    ensures memory { IfErr result (λ fault. fault ≡ RunFault.Memory) }
-{
-    match fault {
-        NewFault::BadSizes { which: _ } => unreachable!(),
-        NewFault::Memory => Err(RunFault::Memory),
-    }
-}
-
-// Closes the desk with all its passes.
+// Closes the desk with all its passes. Its history is given the program's sizes.
 fn finish(core: Core, desk: Desk, passes: Vec<Pass>) -> History
     requires core { desk.core ≡ id_of core }
-    requires sizes { desk.sizes ≡ program_sizes }
+    requires room { HasProgramRoom desk.sizes }
     requires whos { whos passes.items ≡ lane_numbers 64 }
     requires rested { All (Rested desk.core.signals) passes.items }
     ensures sizes { result.sizes ≡ program_sizes }
@@ -142,5 +150,9 @@ fn finish(core: Core, desk: Desk, passes: Vec<Pass>) -> History
     ensures follows { (cs : List Command) → IsScript cs → All (FollowsIn cs) passes.items → FollowsScript result.entries cs }
 {
     desk.known();
-    desk.close(core, passes)
+    let History { entries, sizes: _ } = desk.close(core, passes);
+    History {
+        entries,
+        sizes: PROGRAM_SIZES,
+    }
 }

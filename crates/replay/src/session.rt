@@ -7,9 +7,10 @@ ghost use Rattle.script.specs.Scripts.{IsScript};
 ghost use Rattle.sequence_core.specs.Says.{LacksRows};
 ghost use Rattle.signal_board.specs.Rule.{open_count, own};
 ghost use Rattle.signal_board.specs.Says.{PassSays};
-ghost use Rattle.replay.specs.Running.{Fresh, IsAt, IsFit, Keeps, NextHand, Ran, SomeTurns, is_live_name, is_own, live_behind, program_sizes};
+ghost use Rattle.replay.specs.Running.{Fresh, IsAt, IsFit, Keeps, NextHand, Ran, SomeTurns, is_live_name, is_own, live_behind};
 ghost use Rattle.replay.specs.Running.{turns_at, turns_of};
 ghost use Rattle.step_run.specs.Faults.{OpeningLacks, ScriptLacks, StopsBy};
+ghost use Rattle.step_run.specs.Runs.{HasProgramRoom};
 ghost use Rattle.script.specs.Commands.{opens};
 ghost use Rattle.replay.specs.Sessions.{HandGiven, Standing};
 ghost use Rattle.replay.specs.declared.hand.Hand.{Hand as IsHand};
@@ -38,7 +39,7 @@ pub(crate) fn run_command<N: Making, R: Wait>(
     command: &Command,
     line: u32,
 ) -> Result<Hand, RunFault>
-    requires sizes { N.made.sizes ≡ program_sizes }
+    requires sizes { HasProgramRoom N.made.sizes }
     requires table { pass.old.table ≡ N.made.core.signals }
     requires given { HandGiven N.made.core pass.old.p hand }
     requires turns { SomeTurns turns }
@@ -87,7 +88,7 @@ fn open<N: Making, R: Wait>(
     latches: &Latches,
     line: u32,
 ) -> Result<Hand, RunFault>
-    requires sizes { N.made.sizes ≡ program_sizes }
+    requires sizes { HasProgramRoom N.made.sizes }
     requires table { pass.old.table ≡ N.made.core.signals }
     requires given { HandGiven N.made.core pass.old.p hand }
     requires turns { SomeTurns turns }
@@ -120,7 +121,7 @@ fn begin<N: Making, R: Wait>(
     latches: &Latches,
     line: u32,
 ) -> Result<Hand, RunFault>
-    requires sizes { N.made.sizes ≡ program_sizes }
+    requires sizes { HasProgramRoom N.made.sizes }
     requires table { pass.old.table ≡ N.made.core.signals }
     requires idle { open_count pass.old.p.mine ≡ 0 }
     requires turns { SomeTurns turns }
@@ -164,7 +165,7 @@ pub(crate) fn run_session<N: Making, G: Gate, R: Wait>(
 ) -> Result<(), RunFault>
     requires script { IsScript commands.now }
     requires few { length commands.now < 2 ^ 31 }
-    requires sizes { N.made.sizes ≡ program_sizes }
+    requires sizes { HasProgramRoom N.made.sizes }
     requires fresh { Fresh N.made.core.signals pass.old }
     ensures keeps { Keeps pass.old pass.new }
     ensures idle { open_count pass.new.p.mine ≡ 0 }
@@ -197,7 +198,7 @@ fn run_commands<N: Making, G: Gate, R: Wait>(
 ) -> Result<(), RunFault>
     requires script { IsScript commands.now }
     requires few { length commands.now < 2 ^ 31 }
-    requires sizes { N.made.sizes ≡ program_sizes }
+    requires sizes { HasProgramRoom N.made.sizes }
     requires fresh { Fresh N.made.core.signals pass.old }
     ensures keeps { Keeps pass.old pass.new }
     ensures idle { open_count pass.new.p.mine ≡ 0 }
@@ -236,7 +237,7 @@ fn pass_or_run<N: Making, G: Gate, R: Wait>(
     requires script { IsScript commands.now }
     requires few { length commands.now < 2 ^ 31 }
     requires inside { i < length commands.now }
-    requires sizes { N.made.sizes ≡ program_sizes }
+    requires sizes { HasProgramRoom N.made.sizes }
     requires at { IsAt commands.now N.made.core who i pass.old live hand }
     ensures keeps { Keeps pass.old pass.new }
     ensures at { IfOk result (λ next. IsAt commands.now N.made.core who (i + 1) pass.new next.1 next.0) }

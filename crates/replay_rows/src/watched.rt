@@ -1,8 +1,9 @@
 // Runs of a script on a manager that the gate sees.
 ghost use Rattle.std.specs.Prelude.{◌≡◌, All};
 ghost use Rattle.sequence_core.specs.Says.{AreFresh};
+ghost use Rattle.step_run.specs.Runs.{HasProgramRoom};
 ghost use Rattle.waiter.specs.Says.{id_of};
-ghost use Rattle.replay.specs.Running.{Rested, lane_numbers, program_sizes, whos};
+ghost use Rattle.replay.specs.Running.{Rested, lane_numbers, whos};
 
 use crate::gates::{Hold, Watching};
 use latch_manager::manager::{Making, Manager};
@@ -36,7 +37,7 @@ fn run_watched<N: Making + Send + Sync, R: Threads + Wait + Sync>(
     passes: &mut [Pass],
     watch: &Watch,
 ) -> (Result<(), RunFault>, u64)
-    requires sizes { N.made.sizes ≡ program_sizes }
+    requires sizes { HasProgramRoom N.made.sizes }
     requires passes { AreFresh N.made.core.signals 64 passes.old }
     ensures whos { whos passes.new ≡ whos passes.old }
     ensures rested { All (Rested N.made.core.signals) passes.new }
@@ -58,7 +59,7 @@ fn within<N: Making + Send + Sync, R: Threads + Wait + Sync>(
 ) -> (Core, Desk, Result<(), RunFault>, u64)
     requires core { (id_of core ≡ N.made.core) × (core.board.sizes ≡ N.made.sizes) }
     requires desk { (desk.core ≡ N.made.core) × (desk.sizes ≡ N.made.sizes) }
-    requires sizes { N.made.sizes ≡ program_sizes }
+    requires sizes { HasProgramRoom N.made.sizes }
     requires passes { AreFresh N.made.core.signals 64 passes.old.items }
     ensures core { (id_of result.0 ≡ N.made.core) × (result.0.board.sizes ≡ N.made.sizes) }
     ensures desk { (result.1.core ≡ N.made.core) × (result.1.sizes ≡ N.made.sizes) }
@@ -73,7 +74,7 @@ fn within<N: Making + Send + Sync, R: Threads + Wait + Sync>(
 
 fn close(core: Core, desk: Desk, passes: Vec<Pass>) -> History
     requires core { desk.core ≡ id_of core }
-    requires sizes { desk.sizes ≡ program_sizes }
+    requires sizes { HasProgramRoom desk.sizes }
     requires whos { whos passes.items ≡ lane_numbers 64 }
     requires rested { All (Rested desk.core.signals) passes.items }
 {

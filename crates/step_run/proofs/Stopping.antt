@@ -1,7 +1,6 @@
 -- Where a run stops for want of rows, an opening of its script lacks them; and at the sizes of a run no request is refused for its latches.
-use Rattle.std.proofs.Common.{◌≡◌, ◌+◌, ◌-◌, ◌*◌, ◌<◌, ◌≤◌, List, length, Some, IsSome, refl, ap, subst, arith}
+use Rattle.std.proofs.Common.{◌≡◌, ◌+◌, ◌-◌, ◌*◌, ◌<◌, ◌≤◌, List, length, Some, IsSome, refl, subst, arith}
 use Rattle.std.specs.List.{Contains}
-use Rattle.latch_model.specs.declared.history.Sizes.{Sizes}
 use Rattle.latch_model.specs.declared.latch.Latch.{Latch}
 use Rattle.latch_model.specs.declared.latch.Mode.{Mode}
 use Rattle.script.specs.declared.command.Command.{Command}
@@ -9,7 +8,7 @@ use Rattle.sequence_core.specs.Says.{DeskState, LacksRows, Refuses}
 use Rattle.sequence_core.specs.declared.fault.SeqFault.{SeqFault}
 use Rattle.sequence_core.specs.declared.fault.SeqFault.TheVariants as seq_faults
 use Rattle.step_run.specs.Faults.{OpeningLacks, ScriptLacks, StopsBy, fault_of}
-use Rattle.step_run.specs.Runs.{program_sizes}
+use Rattle.step_run.specs.Runs.{HasProgramRoom}
 use Rattle.step_run.specs.declared.fault.RunFault.{RunFault}
 use Rattle.step_run.specs.declared.fault.RunFault.TheVariants.{RowsOut, Memory}
 
@@ -20,11 +19,11 @@ script_stops commands c (RowsOut free need) has lacks = (c, has, lacks)
 script_stops commands c Memory has lacks = tt
 
 -- the latches of the other sessions leave place for those of one request
-pub finds_place : (d : DeskState) (mode : Mode) (ls : List Latch) (fault : SeqFault) → d.sizes ≡ program_sizes → length ls ≤ 16 → Refuses d mode ls fault
+pub finds_place : (d : DeskState) (mode : Mode) (ls : List Latch) (fault : SeqFault) → HasProgramRoom d.sizes → length ls ≤ 16 → Refuses d mode ls fault
     → IsSome (fault_of fault)
 finds_place d mode ls (seq_faults.LatchesFull held asked) sizes few r =
-    let latches : d.sizes.latches ≡ 1024 = ap (λ (s : Sizes). s.latches) sizes in
-    let lanes : d.sizes.lanes ≡ 64 = ap (λ (s : Sizes). s.lanes) sizes in
+    let latches : d.sizes.latches ≡ 1024 = sizes.latches in
+    let lanes : d.sizes.lanes ≡ 64 = sizes.lanes in
     let asks : asked ≡ length ls = r.2 in
     let over : d.sizes.latches < held + asked = r.3 in
     let most : held ≤ 16 * (d.sizes.lanes - 1) = r.4 in

@@ -31,9 +31,14 @@ pub record RunSays : Type 0 where
   pub passes : List PassSays
   pub lives : List LiveSays
 
--- The sizes that a program uses.
+-- The sizes at which the program runs a script.
 abbrev pub program_sizes : Sizes
 program_sizes = record { latches = 1024; lanes = 64; rows = 98304 }
+
+-- Sizes with the latches and lanes of the program, and with any number of rows.
+pub record HasProgramRoom (sizes : Sizes) : Type 0 where
+  pub latches : sizes.latches ≡ program_sizes.latches
+  pub lanes : sizes.lanes ≡ program_sizes.lanes
 
 -- Pass number i, from 0, is of session i + 1. It has no open request where no live name of the session has one; of one session that is left
 -- open.
@@ -45,7 +50,7 @@ pub record IsPass (core : CoreId) (lent : ℕ) (ls : List LiveSays) (i : ℕ) (p
 -- All that a run needs to go on and to be closed. The request of one session, or of none where that is 0, may be lent to a call.
 pub record Sound (lent : ℕ) (r : RunSays) : Type 0 where
   pub core : r.desk ≡ r.core
-  pub sizes : r.sizes ≡ program_sizes
+  pub sizes : HasProgramRoom r.sizes
   pub given : r.given ≡ SESSION_LIMIT
   pub count : length r.passes ≡ SESSION_LIMIT
   pub passes : (i : ℕ) (p : PassSays) → slice_get r.passes i ≡ Some p → IsPass r.core lent r.lives i p

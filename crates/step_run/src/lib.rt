@@ -11,12 +11,14 @@ mod lines;
 mod live;
 mod open;
 mod run;
+mod sizes;
 mod turn;
 
-ghost use Rattle.std.specs.Prelude.{◌≡◌, [], IfErr, IfOk, OnOk};
+ghost use Rattle.std.specs.Prelude.{◌≡◌, [], IfErr, IfOk, None, OnOk};
+ghost use Rattle.sequence_core.specs.Bounds.{bad_size};
 ghost use Rattle.step_run.specs.Faults.{ScriptLacks, StopsBy};
 ghost use Rattle.step_run.specs.Lines.{EndsLine};
-ghost use Rattle.step_run.specs.Runs.{Sound, Stands};
+ghost use Rattle.step_run.specs.Runs.{HasProgramRoom, Sound, Stands};
 ghost use Rattle.step_run.specs.Seen.{seen_run};
 ghost use Rattle.step_run.specs.State.{start};
 ghost use Rattle.step_run.specs.Steps.{run as run_of, step_output};
@@ -26,26 +28,33 @@ use crate::count::summary;
 pub use crate::fault::{RunFault, run_fault};
 pub use crate::last::last_line;
 use crate::run::{StepRun, close, start};
+pub use crate::sizes::{FIRST_SIZES, PROGRAM_SIZES};
+use latch_model::history::Sizes;
 use script::command::Script;
 use std::alloc::Global;
 
 /// Runs a script step by step: each command is run to its end before the next, and a wait is one turn. The bytes are the step output,
 /// whose last line counts how many requests began and how many ended in each way. Too few rows are answered only where an opening of the
-/// script needs more than were free.
+/// script needs more than were free: a script to which rows are refused is run again from its start, on the program's whole pool.
 pub fn run_step(alloc: Global, script: &Script) -> Result<Vec<u8>, RunFault>
     ensures output { IfOk result (λ out. out.items ≡ step_output script.now) }
     ensures ends { IfOk result (λ out. EndsLine out.items) }
     ensures stops { IfErr result (StopsBy (ScriptLacks script.now)) }
 {
-    Ok(output_of(alloc, script)?)
+    match output_of(alloc, script, FIRST_SIZES) {
+        Err(RunFault::RowsOut { .. }) => output_of(alloc, script, PROGRAM_SIZES),
+        answered => answered,
+    }
 }
 
-// What a script writes; its last line isn't looked at.
-fn output_of(alloc: Global, script: &Script) -> Result<Vec<u8>, RunFault>
+// What a script writes on a desk of these sizes; its last line isn't looked at.
+fn output_of(alloc: Global, script: &Script, sizes: Sizes) -> Result<Vec<u8>, RunFault>
+    requires room { HasProgramRoom sizes }
+    requires bounds { bad_size sizes ≡ None }
     ensures output { IfOk result (λ out. out.items ≡ step_output script.now) }
     ensures stops { IfErr result (StopsBy (ScriptLacks script.now)) }
 {
-    let mut run = start(alloc)?;
+    let mut run = start(alloc, sizes)?;
     let mut out = Vec::new(alloc);
     let done = run_all(alloc, &mut run, script, &mut out);
     let history = close(run);

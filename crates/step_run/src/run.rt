@@ -1,9 +1,10 @@
 // A run on a desk with a pass for each session, and its end.
-ghost use Rattle.std.specs.Prelude.{◌≡◌, ℕ, ◌≤◌, [], ◌∷◌, ◌++◌, IfOk};
+ghost use Rattle.std.specs.Prelude.{◌≡◌, ℕ, ◌≤◌, [], ◌∷◌, ◌++◌, IfOk, None};
 ghost use Rattle.script.specs.declared.limits.TheConstants.{SESSION_LIMIT};
+ghost use Rattle.sequence_core.specs.Bounds.{bad_size};
 ghost use Rattle.sequence_core.specs.Says.{end_entry};
 ghost use Rattle.step_run.specs.Lives.{IsOf, ended_with, lent_by};
-ghost use Rattle.step_run.specs.Runs.{Sound, Stands};
+ghost use Rattle.step_run.specs.Runs.{HasProgramRoom, Sound, Stands};
 ghost use Rattle.step_run.specs.Seen.{seen_run};
 ghost use Rattle.step_run.specs.State.{start};
 ghost use Rattle.waiter.specs.Says.{id_of};
@@ -25,16 +26,13 @@ pub(crate) struct StepRun<'s> {
     pub(crate) lives: Vec<Live<'s>>,
 }
 
-/// A run without commands, on a desk of the program's sizes.
-pub(crate) fn start<'s>(alloc: Global) -> Result<StepRun<'s>, Memory>
+/// A run without commands, on a desk of these sizes.
+pub(crate) fn start<'s>(alloc: Global, sizes: Sizes) -> Result<StepRun<'s>, Memory>
+    requires room { HasProgramRoom sizes }
+    requires bounds { bad_size sizes ≡ None }
     ensures sound { IfOk result (λ run. Sound 0 (seen_run run)) }
     ensures stands { IfOk result (λ run. Stands start (seen_run run)) }
 {
-    let sizes = Sizes {
-        latches: 1_024,
-        lanes: 64,
-        rows: 98_304,
-    };
     match Desk::new(alloc, sizes) {
         Ok((core, desk, passes)) => Ok(StepRun {
             core,

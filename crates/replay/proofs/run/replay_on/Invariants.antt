@@ -1,5 +1,5 @@
 use Rattle.waiter.specs.Says.{id_of}
-use Rattle.replay.proofs.run.replay.Given as goal
+use Rattle.replay.proofs.run.replay_on.Given as goal
 
 -- The making is that of the desk which was made.
 abbrev pub ghosts-within : goal.ghosts-within
