@@ -1,6 +1,7 @@
 -- Live names at a place, with another value there, and after some have been heard.
 use Rattle.std.proofs.Common.{◌≡◌, ℕ, zero, suc, ◌<◌, List, [], ◌∷◌, ◌++◌, map, length, get_or, Some, refl, sym, ap, ◌∙◌, subst, arith}
 use Rattle.std.specs.Prelude.{slice_get, slice_set}
+use Rattle.std.specs.Box.{with_value as boxed}
 use Rattle.std.specs.List.{Contains}
 use Rattle.signal_board.specs.Steps.{warned}
 use Rattle.signal_board.specs.Views.{RequestView}
@@ -13,7 +14,7 @@ use Rattle.step_run.specs.Lives.{AreHeard, AreWarned, Heard, HeardOf, LiveSays, 
 use Rattle.std.proofs.lemmas.List.Elements.{Contains-append_right}
 
 pub set_value : (xs : List Live) (i : ℕ) (y : Live) (v : Value) → y ≡ get_or xs i y →
-    map seen_live (slice_set xs i (record y { value = v })) ≡ with_value i v (map seen_live xs)
+    map seen_live (slice_set xs i (record y { value = boxed y.value v })) ≡ with_value i v (map seen_live xs)
 set_value [] zero y v e = refl
 set_value [] (suc i) y v e = refl
 set_value (x ∷ xs) zero y v e =

@@ -27,7 +27,7 @@ pub record LiveSays : Type 0 where
   pub value : Value
 
 abbrev pub seen_live : Live → LiveSays
-seen_live n = record { name = n.name.now; session = n.session; mode = n.mode; turns = n.turns; value = n.value }
+seen_live n = record { name = n.name.now; session = n.session; mode = n.mode; turns = n.turns; value = n.value.value }
 
 -- whether a request is open
 abbrev pub is_held : Value → Bool

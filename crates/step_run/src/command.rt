@@ -142,7 +142,7 @@ fn check_at(
 {
     let copy = asked.copy(alloc)?;
     let live = &mut run.lives[i];
-    check_value(&run.core, live.name, &mut live.value, copy, out)
+    check_value(&run.core, live.name, &mut *live.value, copy, out)
 }
 
 // The same of its value.
@@ -211,7 +211,7 @@ fn poison_at(run: &mut StepRun, i: usize, out: &mut Vec<u8>) -> Result<(), Memor
         OnOk result (Makes (poisoned n s) (seen_run run.new) out.old.items out.new.items) }
 {
     let live = &mut run.lives[i];
-    if poison(&run.core, &mut live.value) {
+    if poison(&run.core, &mut *live.value) {
         words_line(live.name, b"poisons", out)
     } else {
         Ok(())

@@ -32,7 +32,7 @@ fn hear_at(core: &Core, lives: &mut Vec<Live>, i: usize, waiting: &mut Waiting, 
     ensures heard { (l : LiveSays) → slice_get (map seen_live lives.old.items) i ≡ Some l → Heard by waiting.old.r waiting.new.r l.value }
 {
     let live = &mut lives[i];
-    hear(core, &mut live.value, waiting, by);
+    hear(core, &mut *live.value, waiting, by);
 }
 
 // The same of one value.

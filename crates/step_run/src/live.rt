@@ -1,5 +1,5 @@
 // Live names, and the values that stand for their requests.
-ghost use Rattle.std.specs.Prelude.{◌≡◌, ℕ, ◌<◌, length, map, Some, IfSome, slice_get};
+ghost use Rattle.std.specs.Prelude.{◌≡◌, ℕ, ◌<◌, length, map, Some, IfOk, IfSome, slice_get};
 ghost use Rattle.std.specs.List.{position};
 ghost use Rattle.script.specs.Commands.{same_name};
 ghost use Rattle.latch_model.specs.declared.history.Fault.TheVariants.{None as no_fault};
@@ -10,6 +10,8 @@ ghost use Rattle.waiter.specs.Says.{id_of};
 use latch_model::history::{Cause, Fault};
 use latch_model::latch::Mode;
 use script::command::Name;
+use span_key::Memory;
+use std::alloc::Global;
 use std::mem;
 use waiter::{Core, Ending, Granted, Optimist, Waiting};
 
@@ -21,13 +23,54 @@ pub(crate) enum Value {
     Over,
 }
 
-/// A live name with its session, how its request was opened, and what stands for the request.
+/// A live name with its session, how its request was opened, and what stands for the request: in a box, so that the names behind one that is released move
+/// quickly.
 pub(crate) struct Live<'s> {
     pub(crate) name: &'s Name,
     pub(crate) session: u32,
     pub(crate) mode: Mode,
     pub(crate) turns: Option<u32>,
-    pub(crate) value: Value,
+    pub(crate) value: Box<Value>,
+}
+
+/// Room for a value that is to come.
+pub(crate) fn new_room(alloc: Global) -> Result<Box<Value>, Memory>
+    ensures { IfOk result (λ room. room.value ≡ Value.Over) }
+{
+    match Box::new(alloc, Value::Over) {
+        Ok(room) => Ok(room),
+        Err(refused) => {
+            no_value(refused.value);
+            Err(Memory)
+        }
+    }
+}
+
+/// The value goes into its room.
+pub(crate) fn fill(room: Box<Value>, value: Value) -> Box<Value>
+    requires { room.value ≡ Value.Over }
+    ensures { result.value ≡ value }
+{
+    let mut room = room;
+    no_value(mem::replace(&mut *room, value));
+    room
+}
+
+/// Room that was not needed.
+pub(crate) fn leave(room: Box<Value>)
+    requires { room.value ≡ Value.Over }
+{
+    no_value(Box::into_inner(room));
+}
+
+// A value that is over is let go.
+fn no_value(value: Value)
+    requires { value ≡ Value.Over }
+{
+    match value {
+        Value::Over => {}
+        _held => unreachable!(),
+    }
 }
 
 /// The place of the first live name that is called so.
@@ -50,7 +93,7 @@ pub(crate) fn take(lives: &mut Vec<Live>, i: usize) -> Value
     ensures lives { map seen_live lives.new.items ≡ with_value i Value.Over (map seen_live lives.old.items) }
 {
     let live = &mut lives[i];
-    mem::replace(&mut live.value, Value::Over)
+    mem::replace(&mut *live.value, Value::Over)
 }
 
 /// Puts a value into the place of one that was taken out.
@@ -59,10 +102,7 @@ pub(crate) fn put(lives: &mut Vec<Live>, i: usize, value: Value)
     ensures { map seen_live lives.new.items ≡ with_value i value (map seen_live lives.old.items) }
 {
     let live = &mut lives[i];
-    match mem::replace(&mut live.value, value) {
-        Value::Over => {}
-        _held => unreachable!(),
-    }
+    no_value(mem::replace(&mut *live.value, value));
 }
 
 /// A request that is open and has no cause gets one. The answer is whether it did.

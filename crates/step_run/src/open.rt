@@ -18,7 +18,7 @@ ghost use Rattle.waiter.specs.Says.{id_of};
 use crate::command::wait_at;
 use crate::fault::{RunFault, run_fault};
 use crate::lines::opening_line;
-use crate::live::{Live, Value};
+use crate::live::{Live, Value, fill, leave, new_room};
 use crate::run::StepRun;
 use latch_model::latch::Mode;
 use latch_model::request::Request;
@@ -55,11 +55,42 @@ pub(crate) fn open<'s>(
         (seen_run run.new) out.old.items out.new.items) }
 {
     run.lives.reserve(1)?;
-    let value = begin(alloc, run, opening.session, request, opening.mode)?;
+    let room = new_room(alloc)?;
+    let value = begin_in(alloc, run, room, opening.session, request, opening.mode)?;
     let i = run.lives.len();
     push(run, opening, value);
     write_opening(alloc, run, i, out)?;
     Ok(first_turn(run, i, opening.mode, out)?)
+}
+
+// The request begins, and its value goes into the room that was made for it.
+fn begin_in(
+    alloc: Global,
+    run: &mut StepRun,
+    room: Box<Value>,
+    session: u32,
+    request: Request,
+    mode: Mode,
+) -> Result<Box<Value>, RunFault>
+    requires sound { Sound 0 (seen_run run.old) }
+    requires idle { has_open session (seen_run run.old).lives ≡ false }
+    requires session { (1 ≤ session) × (session ≤ SESSION_LIMIT) }
+    requires few { length request.latches ≤ 16 }
+    requires room { room.value ≡ Value.Over }
+    ensures lent { OnOk result (Sound session (seen_run run.new)) }
+    ensures refused { OnErr result (Sound 0 (seen_run run.new)) }
+    ensures stops { IfErr result (StopsBy (LacksRows mode request.latches)) }
+    ensures lives { (run.new.lives ≡ run.old.lives) × (run.new.core ≡ run.old.core) × (run.new.lives.items ≡ run.old.lives.items) }
+    ensures log { OnOk result (run.new.desk.log ≡ run.old.desk.log ++ next_entry run.old.desk.log session mode request ∷ []) }
+    ensures value { IfOk result (λ b. b.value ≡ begun_value (id_of run.old.core) mode (begun_request run.old.desk.log session mode request)) }
+{
+    match begin(alloc, run, session, request, mode) {
+        Ok(value) => Ok(fill(room, value)),
+        Err(fault) => {
+            leave(room);
+            Err(fault)
+        }
+    }
 }
 
 // The request begins, on the pass of its session.
@@ -95,9 +126,9 @@ fn begin(
 }
 
 // The request gets a live name, for which there is room.
-fn push<'s>(run: &mut StepRun<'s>, opening: Opening<'s>, value: Value)
+fn push<'s>(run: &mut StepRun<'s>, opening: Opening<'s>, value: Box<Value>)
     requires { vec_len run.old.lives < vec_capacity run.old.lives }
-    ensures lives { (seen_run run.new).lives ≡ (seen_run run.old).lives ++ opening_of opening.entry value ∷ [] }
+    ensures lives { (seen_run run.new).lives ≡ (seen_run run.old).lives ++ opening_of opening.entry value.value ∷ [] }
     ensures others { (run.new.core ≡ run.old.core) × (run.new.desk ≡ run.old.desk) × (run.new.passes.items ≡ run.old.passes.items) }
     ensures len { length run.new.lives.items ≡ length run.old.lives.items + 1 }
 {
@@ -128,7 +159,7 @@ fn write_opening(
         ++ named_line l.name (opening_text l.value)) }
 {
     let live = &mut run.lives[i];
-    begun_line(alloc, &run.core, live.name, &mut live.value, out)
+    begun_line(alloc, &run.core, live.name, &mut *live.value, out)
 }
 
 // The same of its value.

@@ -59,14 +59,14 @@ pub(crate) fn end(run: &mut StepRun, ending: Ending)
 }
 
 /// Ends the request of a value that was lent, unless it is over.
-pub(crate) fn end_value(run: &mut StepRun, value: Value)
-    requires sound { Sound (lent_by value) (seen_run run.old) }
-    requires value { (who : ℕ) × (1 ≤ who) × (who ≤ SESSION_LIMIT) × IsOf (id_of run.old.core) who value }
+pub(crate) fn end_value(run: &mut StepRun, value: Box<Value>)
+    requires sound { Sound (lent_by value.value) (seen_run run.old) }
+    requires value { (who : ℕ) × (1 ≤ who) × (who ≤ SESSION_LIMIT) × IsOf (id_of run.old.core) who value.value }
     ensures sound { Sound 0 (seen_run run.new) }
-    ensures log { run.new.desk.log ≡ ended_with value run.old.desk.log }
+    ensures log { run.new.desk.log ≡ ended_with value.value run.old.desk.log }
     ensures lives { run.new.lives.items ≡ run.old.lives.items }
 {
-    match ending(&run.core, value) {
+    match ending(&run.core, Box::into_inner(value)) {
         Some(ending) => end(run, ending),
         None => {}
     }

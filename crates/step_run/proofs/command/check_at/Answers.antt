@@ -17,13 +17,17 @@ use Rattle.step_run.proofs.command.check_at.Goals as goal
 pub check_value-requires-clause-optimistic : goal.check_value-requires-clause-optimistic
 check_value-requires-clause-optimistic c =
     let x = c.index_mut-live.result.now in
-    c.requires.optimistic (seen_live x) (seen_get c.args.run.now.lives.items c.args.i x c.index_mut-live.ensures.value c.requires.inside)
+    let o = c.requires.optimistic (seen_live x) (seen_get c.args.run.now.lives.items c.args.i x c.index_mut-live.ensures.value c.requires.inside) in
+    (o.0, c.deref_mut.ensures.value ∙ o.1)
 
 pub check_value-requires-clause-core : goal.check_value-requires-clause-core
 check_value-requires-clause-core c =
     let x = c.index_mut-live.result.now in
-    let at = seen_get c.args.run.now.lives.items c.args.i x c.index_mut-live.ensures.value c.requires.inside in
-    (x.session, (Each-at (IsLive (id_of c.args.run.now.core)) (seen_run c.args.run.now).lives c.args.i (seen_live x) at c.requires.sound.lives).of)
+    let at = seen_get c.args.run.now.lives.items c.args.i x c.index_mut-live.ensures.value c.requires.inside in (
+      x.session,
+      subst (λ (v : Value). IsOf (id_of c.args.run.now.core) x.session v) (sym c.deref_mut.ensures.value)
+          (Each-at (IsLive (id_of c.args.run.now.core)) (seen_run c.args.run.now).lives c.args.i (seen_live x) at c.requires.sound.lives).of,
+    )
 
 pub returns-clause-sound : goal.returns-clause-sound
 returns-clause-sound c =
@@ -31,7 +35,7 @@ returns-clause-sound c =
     let xs = c.args.run.now.lives.items in
     let at = seen_get xs c.args.i x c.index_mut-live.ensures.value c.requires.inside in
     let o = c.requires.optimistic (seen_live x) at in
-    let p = c.check_value.ensures.kept o.0 o.1 in
+    let p = c.check_value.ensures.kept o.0 (c.deref_mut.ensures.value ∙ o.1) in
     let of : IsOf (id_of c.args.run.now.core) x.session (Optimist o.0) =
     subst (λ (v : Value). IsOf (id_of c.args.run.now.core) x.session v) o.1
     (Each-at (IsLive (id_of c.args.run.now.core)) (seen_run c.args.run.now).lives c.args.i (seen_live x) at c.requires.sound.lives).of in
@@ -53,4 +57,4 @@ returns-clause-step c = λ s n h here.
     (subst (λ (ls : List Latch). ChecksAs o.0 w.0 x.name.now ls c.args.out.now.items c.check_value.new.out.items) c.in_ok-copy.ensures w.2)
     refl
     (set_value xs c.args.i x c.check_value.new.value c.index_mut-live.ensures.value ∙ ap (λ (v : Value). with_value c.args.i v (map seen_live xs)) w.1))
-    (c.check_value.ensures.checked o.0 o.1)
+    (c.check_value.ensures.checked o.0 (c.deref_mut.ensures.value ∙ o.1))

@@ -12,23 +12,23 @@ use Rattle.step_run.proofs.Opening.{begun_held, begun_of, opens_as, pushed_at, p
 use Rattle.step_run.proofs.Sounding.{no_open}
 use Rattle.step_run.proofs.open.open.Goals as goal
 
-pub begin-requires-clause-idle : goal.begin-requires-clause-idle
-begin-requires-clause-idle c =
+pub begin_in-requires-clause-idle : goal.begin_in-requires-clause-idle
+begin_in-requires-clause-idle c =
     ap (λ xs. has_open c.args.opening.session (map seen_live xs)) c.reserve.ensures.items
     ∙ no_open c.args.opening.session (seen_run c.args.run.now).lives c.requires.idle
 
 pub push-requires : goal.push-requires
 push-requires c =
-    let a : vec_len c.begin.new.run.lives ≡ vec_len c.reserve.new.self = ap (λ v. vec_len v) c.in_ok-value.ensures.lives.0 in
-    let b : vec_capacity c.begin.new.run.lives ≡ vec_capacity c.reserve.new.self = ap (λ v. vec_capacity v) c.in_ok-value.ensures.lives.0 in
+    let a : vec_len c.begin_in.new.run.lives ≡ vec_len c.reserve.new.self = ap (λ v. vec_len v) c.in_ok-value.ensures.lives.0 in
+    let b : vec_capacity c.begin_in.new.run.lives ≡ vec_capacity c.reserve.new.self = ap (λ v. vec_capacity v) c.in_ok-value.ensures.lives.0 in
     omega (arith, c.in_ok-reserve.ensures.ok)
 
 pub write_opening-requires-clause-sound : goal.write_opening-requires-clause-sound
 write_opening-requires-clause-sound c =
     let o = c.args.opening in
     let core = id_of c.args.run.now.core in
-    let v = c.in_ok-value.value in
-    let mid = c.begin.new.run in
+    let v = c.in_ok-value.value.value in
+    let mid = c.begin_in.new.run in
     let same : mid.core ≡ c.args.run.now.core = c.in_ok-value.ensures.lives.1 in
     pushed_sound mid c.push.new.run (opening_of o v) c.push.ensures.others.0 c.push.ensures.others.1 c.push.ensures.others.2 c.push.ensures.lives
     (record {
@@ -42,10 +42,10 @@ write_opening-requires-clause-sound c =
 pub write_opening-requires-clause-begun : goal.write_opening-requires-clause-begun
 write_opening-requires-clause-begun c =
     let o = c.args.opening in
-    let v = c.in_ok-value.value in
-    let ls = (seen_run c.begin.new.run).lives in
+    let v = c.in_ok-value.value.value in
+    let ls = (seen_run c.begin_in.new.run).lives in
     let place : length ls ≡ c.len-i.result =
-    omega (arith, length-map c.begin.new.run.lives.items seen_live, c.begin.new.run.lives.ok.0, c.len-i.ensures) in (
+    omega (arith, length-map c.begin_in.new.run.lives.items seen_live, c.begin_in.new.run.lives.ok.0, c.len-i.ensures) in (
       opening_of o v,
       ap (λ k. slice_get (seen_run c.push.new.run).lives k) (sym place) ∙ pushed_at ls (seen_run c.push.new.run).lives (opening_of o v) c.push.ensures.lives,
       (begun_held (id_of c.args.run.now.core) o.mode _ v c.in_ok-value.ensures.value).1,
@@ -54,13 +54,13 @@ write_opening-requires-clause-begun c =
 pub returns-clause-opened : goal.returns-clause-opened
 returns-clause-opened c = λ s h line range.
     let o = c.args.opening in
-    let v = c.in_ok-value.value in
+    let v = c.in_ok-value.value.value in
     let r = seen_run c.args.run.now in
     let l : LiveSays = opening_of o v in
-    let ls = (seen_run c.begin.new.run).lives in
+    let ls = (seen_run c.begin_in.new.run).lives in
     let kept : ls ≡ r.lives = ap (λ xs. map seen_live xs) (c.in_ok-value.ensures.lives.2 ∙ c.reserve.ensures.items) in
     let place : length ls ≡ c.len-i.result =
-    omega (arith, length-map c.begin.new.run.lives.items seen_live, c.begin.new.run.lives.ok.0, c.len-i.ensures) in
+    omega (arith, length-map c.begin_in.new.run.lives.items seen_live, c.begin_in.new.run.lives.ok.0, c.len-i.ensures) in
     let here : length r.lives ≡ c.len-i.result = sym (ap (λ (xs : List LiveSays). length xs) kept) ∙ place in
     let a = opens_as s r (seen_run c.push.new.run) l (id_of c.args.run.now.core) c.args.request h line range
     (ap (λ (d : DeskState). d.log) c.push.ensures.others.1 ∙ c.in_ok-value.ensures.log) c.in_ok-value.ensures.value
@@ -76,8 +76,8 @@ pub first_turn-requires-clause-sound : goal.first_turn-requires-clause-sound
 first_turn-requires-clause-sound c =
     let o = c.args.opening in
     let core = id_of c.args.run.now.core in
-    let v = c.in_ok-value.value in
-    let mid = c.begin.new.run in
+    let v = c.in_ok-value.value.value in
+    let mid = c.begin_in.new.run in
     let same : mid.core ≡ c.args.run.now.core = c.in_ok-value.ensures.lives.1 in
     subst (λ (q : RunSays). Sound 0 q) (sym c.in_ok-write_opening.ensures.run)
     (pushed_sound mid c.push.new.run (opening_of o v) c.push.ensures.others.0 c.push.ensures.others.1 c.push.ensures.others.2 c.push.ensures.lives
@@ -93,8 +93,8 @@ pub returns-in_err-write_opening-clause-sound : goal.returns-in_err-write_openin
 returns-in_err-write_opening-clause-sound c =
     let o = c.args.opening in
     let core = id_of c.args.run.now.core in
-    let v = c.in_ok-value.value in
-    let mid = c.begin.new.run in
+    let v = c.in_ok-value.value.value in
+    let mid = c.begin_in.new.run in
     let same : mid.core ≡ c.args.run.now.core = c.in_ok-value.ensures.lives.1 in
     subst (λ (q : RunSays). Sound 0 q) (sym c.write_opening.ensures.run)
     (pushed_sound mid c.push.new.run (opening_of o v) c.push.ensures.others.0 c.push.ensures.others.1 c.push.ensures.others.2 c.push.ensures.lives
