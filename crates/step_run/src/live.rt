@@ -23,7 +23,7 @@ pub(crate) enum Value {
     Over,
 }
 
-/// A live name with its session, how its request was opened, and what stands for the request: in a box, so that the names behind one that is released move
+/// A live name with its session, how its request was opened, and what stands for the request. That is large: it is in a box, so that live names are moved
 /// quickly.
 pub(crate) struct Live<'s> {
     pub(crate) name: &'s Name,

@@ -18,8 +18,8 @@ returns-clause-lives c = λ l at.
     let same = seen_at xs c.args.i x l at c.index_mut-live.ensures.value in
     let w = c.hear.ensures.value in (
       w.0,
-      set_value xs c.args.i x c.hear.new.value c.index_mut-live.ensures.value
-          ∙ ap (λ (v : Value). with_value c.args.i v (map seen_live xs)) (w.1 ∙ ap (λ (v : Value). warned_value w.0 v) (c.deref_mut.ensures.value ∙ ap (λ (k : LiveSays). k.value) same)),
+      set_value xs c.args.i x c.hear.new.value c.index_mut-live.ensures.value ∙ ap (λ (v : Value). with_value c.args.i v (map seen_live xs)) w.1
+          ∙ ap (λ (v : Value). with_value c.args.i (warned_value w.0 v) (map seen_live xs)) (c.deref_mut.ensures.value ∙ ap (λ (k : LiveSays). k.value) same),
     )
 
 pub returns-clause-heard : goal.returns-clause-heard
