@@ -1,4 +1,4 @@
-//! One script and what its step run writes; the worked scripts stand with the program.
+//! Scripts and what their step runs write; the worked scripts stand with the program.
 use crate::{FIRST_SIZES, RunFault, last_line, output_of, run_step};
 use script::read_script;
 use std::alloc::{AllocError, Global};
