@@ -4,6 +4,7 @@ ghost use Rattle.script.specs.Names as names;
 ghost use Rattle.script.specs.Scripts.{is_name};
 
 use crate::limits::COMMAND_LIMIT;
+use arrayvec::ArrayString;
 use latch_model::latch::{Latches, Mode, Policy};
 use span_key::Memory;
 use std::alloc::Global;
@@ -12,7 +13,7 @@ use std::marker::Model;
 /// The name of a request in a script: a lower-case letter and then at most 15 lower-case letters and digits.
 #[derive(Debug, Drop)]
 pub struct Name {
-    text: String,
+    text: ArrayString<16>,
 }
 
 impl Model for Name {
@@ -20,37 +21,36 @@ impl Model for Name {
 
     ghost Value = { List ℕ };
 
-    ghost use Rattle.std.specs.String.{string_bytes};
     ghost use Rattle.std.specs.Prelude.{IsTrue};
     ghost use Rattle.script.specs.Scripts.{is_name};
 
-    ghost view = { λ n. string_bytes n.text };
+    ghost view = { λ n. n.text.bytes };
 
-    ghost invariant = { λ n. IsTrue (is_name (string_bytes n.text)) };
+    ghost invariant = { λ n. IsTrue (is_name n.text.bytes) };
 }
 
 impl Name {
-    ghost use Rattle.std.specs.String.{string_bytes};
     ghost use Rattle.script.specs.Names.{packed};
     ghost use Rattle.script.specs.Scripts.{is_name};
 
     // The name with these bytes.
-    pub(crate) fn new(alloc: Global, bytes: &[u8]) -> Result<Name, Memory>
+    pub(crate) fn new(bytes: &[u8]) -> Name
         requires { IsTrue (is_name bytes.now) }
-        ensures { IfOk result (λ n. n ≡ bytes.now) }
+        ensures { result ≡ bytes.now }
     {
         match str::from_utf8(bytes) {
-            Ok(text) => Ok(Name {
-                text: String::from_str(alloc, text)?,
-            }),
+            Ok(text) => match ArrayString::from(text) {
+                Ok(text) => Name { text },
+                Err(_) => unreachable!(),
+            },
             Err(_) => unreachable!(),
         }
     }
 
     // The name with this text.
-    pub(crate) fn of(text: String) -> Name
-        requires { IsTrue (is_name (string_bytes text)) }
-        ensures { result ≡ string_bytes text }
+    pub(crate) fn of(text: ArrayString<16>) -> Name
+        requires { IsTrue (is_name text.bytes) }
+        ensures { result ≡ text.bytes }
     {
         Name { text }
     }

@@ -119,13 +119,13 @@ fn all_name_bytes(text: &[u8]) -> bool
 
 /// The name that a field spells.
 #[tactic(auto, unfolding(crate::specs::Fields::name_at))]
-pub(crate) fn name(alloc: Global, text: &[u8]) -> Result<Name, FieldFault>
+pub(crate) fn name(text: &[u8]) -> Result<Name, FieldFault>
     ensures { Gives (λ n. n) result (or_cause (number_of FaultCause.NoName) (name_at text.now)) }
 {
     if !is_name(text) {
         return Err(FaultCause::NoName.fault());
     }
-    Ok(Name::new(alloc, text)?)
+    Ok(Name::new(text))
 }
 
 /// The policy that a field spells.
@@ -244,17 +244,17 @@ fn access_of(text: &[u8]) -> Option<(Access, &[u8])>
 
 // A span of a key and an end whose lengths aren't tested yet.
 #[tactic(auto, unfolding(crate::specs::Fields::bounded_at))]
-fn bounded(alloc: Global, bounds: Bounds) -> Result<Span, FieldFault>
+fn bounded(bounds: Bounds) -> Result<Span, FieldFault>
     ensures { Gives (λ s. s) result (bounded_at (bounds.key.items, bounds.end.items)) }
 {
-    if bounds.key.len() > KEY_LIMIT || bounds.end.len() > KEY_LIMIT {
+    let Bounds { key, end } = bounds;
+    let (Ok(key), Ok(end)) = (Key::from_vec(key), Key::from_vec(end)) else {
         return Err(FaultCause::LongKey.fault());
-    }
-    let key = key_of(alloc, &bounds.key)?;
-    if bounds.end.is_empty() {
+    };
+    if end.bytes().is_empty() {
         return Ok(Span::point(key));
     }
-    match Span::range(key, key_of(alloc, &bounds.end)?) {
+    match Span::range(key, end) {
         Ok(span) => Ok(span),
         Err(_) => Err(FaultCause::Reversed.fault()),
     }
@@ -294,7 +294,7 @@ pub(crate) fn latch(alloc: Global, field: &[u8]) -> Result<Latch, FieldFault>
     let (bounds, stamp) = timed_span(alloc, rest)?;
     Ok(Latch {
         access,
-        span: bounded(alloc, bounds)?,
+        span: bounded(bounds)?,
         stamp,
     })
 }

@@ -57,6 +57,7 @@ fn latches(alloc: Global, mut fields: Fields<'_>) -> Result<Vec<Latch>, FieldFau
         list.push(latch(alloc, field)?)?;
         fields = after;
     }
+    list.shrink_to_fit();
     Ok(list)
 }
 
@@ -105,7 +106,7 @@ fn opening(alloc: Global, mode: Mode, fields: Fields<'_>) -> Result<Command, Fie
     let Some(session) = number(1, u64::from(SESSION_LIMIT), who) else {
         return Err(FaultCause::NoSession.fault());
     };
-    let name = name(alloc, name_text)?;
+    let name = name(name_text)?;
     let Some(policy) = policy(policy_text) else {
         return Err(FaultCause::NoPolicy.fault());
     };
@@ -122,14 +123,14 @@ fn opening(alloc: Global, mode: Mode, fields: Fields<'_>) -> Result<Command, Fie
 
 // The name that is the one field.
 #[tactic(auto, unfolding(crate::specs::Lines::named_at))]
-fn named(alloc: Global, fields: Fields<'_>) -> Result<Name, FieldFault>
+fn named(fields: Fields<'_>) -> Result<Name, FieldFault>
     ensures { Gives (λ n. n) result (named_at fields.entry) }
 {
     let Some((text, fields)) = fields.split_first() else {
         return Err(FaultCause::NoCommand.fault());
     };
     match fields.split_first() {
-        None => name(alloc, text),
+        None => name(text),
         Some(_) => Err(FaultCause::NoCommand.fault()),
     }
 }
@@ -142,7 +143,7 @@ fn check(alloc: Global, fields: Fields<'_>) -> Result<Command, FieldFault>
         return Err(FaultCause::NoCommand.fault());
     };
     Ok(Command::Check {
-        name: name(alloc, text)?,
+        name: name(text)?,
         latches: few(alloc, fields)?,
     })
 }
@@ -173,17 +174,17 @@ pub(crate) fn command(alloc: Global, line: &[u8]) -> Result<Command, FieldFault>
         opening(alloc, Mode::Look, fields)
     } else if is_word(word, b"wait") {
         Ok(Command::Wait {
-            name: named(alloc, fields)?,
+            name: named(fields)?,
         })
     } else if is_word(word, b"check") {
         check(alloc, fields)
     } else if is_word(word, b"poison") {
         Ok(Command::Poison {
-            name: named(alloc, fields)?,
+            name: named(fields)?,
         })
     } else if is_word(word, b"release") {
         Ok(Command::Release {
-            name: named(alloc, fields)?,
+            name: named(fields)?,
         })
     } else if is_word(word, b"metrics") {
         metrics(fields)

@@ -5,6 +5,7 @@ ghost use Rattle.script.specs.Generated as spec;
 use crate::command::{Command, Name, Script};
 use crate::field::key_of;
 use crate::limits::{MAKE_LIMIT, SESSION_LIMIT};
+use arrayvec::ArrayString;
 use hlc_stamp::Stamp;
 use itoa::Buffer;
 use latch_model::latch::{Access, Latch, Latches, Mode, Policy};
@@ -84,7 +85,7 @@ fn begin(alloc: Global, i: u32, latches: Latches, out: &mut Vec<Command>) -> Res
     let check = first_check(alloc, i, &latches)?;
     out.push(Command::Begin {
         session: i % SESSION_LIMIT + 1,
-        name: name_of(alloc, i)?,
+        name: name_of(i),
         mode: mode_of(i),
         policy: policy_of(i),
         turns: None,
@@ -94,9 +95,7 @@ fn begin(alloc: Global, i: u32, latches: Latches, out: &mut Vec<Command>) -> Res
         out.push(check)?;
     }
     if i % 97 == 50 {
-        out.push(Command::Poison {
-            name: name_of(alloc, i)?,
-        })?;
+        out.push(Command::Poison { name: name_of(i) })?;
     }
     Ok(())
 }
@@ -110,7 +109,7 @@ fn first_check(alloc: Global, i: u32, latches: &Latches) -> Result<Option<Comman
     match mode_of(i) {
         Mode::Acquire | Mode::Look => Ok(None),
         Mode::Optimistic => Ok(Some(Command::Check {
-            name: name_of(alloc, i)?,
+            name: name_of(i),
             latches: few(first_of(alloc, latches.list())?),
         })),
     }
@@ -133,13 +132,9 @@ fn close(alloc: Global, i: u32, out: &mut Vec<Command>) -> Result<(), Memory>
     ensures { OnOk result (out.new.items ≡ out.old.items ++ spec.closing i) }
 {
     if !skips_wait(i) {
-        out.push(Command::Wait {
-            name: name_of(alloc, i)?,
-        })?;
+        out.push(Command::Wait { name: name_of(i) })?;
     }
-    out.push(Command::Release {
-        name: name_of(alloc, i)?,
-    })?;
+    out.push(Command::Release { name: name_of(i) })?;
     Ok(())
 }
 
@@ -231,15 +226,15 @@ fn draw(last: u32) -> u32
     (75 * last + 74) % 65537
 }
 
-fn name_of(alloc: Global, i: u32) -> Result<Name, Memory>
+fn name_of(i: u32) -> Name
     requires { i < MAKE_LIMIT }
-    ensures { IfOk result (λ n. n ≡ spec.name_of i) }
+    ensures { result ≡ spec.name_of i }
 {
     let mut digits = Buffer::new();
-    let mut text = String::with_capacity(alloc, 6)?;
-    text.push_str("q")?;
-    text.push_str(digits.format(i))?;
-    Ok(Name::of(text))
+    let mut text = ArrayString::new();
+    text.push('q');
+    text.push_str(digits.format(i));
+    Name::of(text)
 }
 
 fn mode_of(i: u32) -> Mode

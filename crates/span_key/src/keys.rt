@@ -1,5 +1,5 @@
 // Keys: byte strings of a limited length.
-ghost use Rattle.std.specs.Prelude.{◌≡◌, ℕ, ◌≤◌, ◌<◌, length, IfOk, OnOk};
+ghost use Rattle.std.specs.Prelude.{◌≡◌, ℕ, ◌≤◌, ◌<◌, length, IfErr, IfOk, OnOk};
 
 use std::alloc::Global;
 use std::marker::Model;
@@ -61,6 +61,18 @@ impl Key {
         Ok(Key {
             bytes: Vec::from_slice(alloc, bytes)?,
         })
+    }
+
+    /// A key of these bytes, which are not copied. More than `LIMIT` come back.
+    pub fn from_vec(bytes: Vec<u8>) -> Result<Key, Vec<u8>>
+        ensures key { IfOk result (λ k. (k ≡ bytes.items) × IsKey k) }
+        ensures long { IfErr result (λ back. (back.items ≡ bytes.items) × (key_limit < length bytes.items)) }
+    {
+        if bytes.len() <= Key::LIMIT {
+            Ok(Key { bytes })
+        } else {
+            Err(bytes)
+        }
     }
 
     /// The bytes of the key.

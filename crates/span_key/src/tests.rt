@@ -99,6 +99,19 @@ fn keys_have_at_most_256_bytes(rt: HostRuntime) -> Result<(), Fail> {
 }
 
 #[test]
+fn a_key_takes_over_at_most_256_bytes(rt: HostRuntime) -> Result<(), Fail> {
+    let Ok(longest) = Key::from_vec(Vec::from_slice(rt.alloc(), &[7; 256])?) else {
+        return Err(Fail::from("256 bytes came back"));
+    };
+    assert_eq!(rt; longest.bytes(), [7; 256].as_slice());
+    let Err(back) = Key::from_vec(Vec::from_slice(rt.alloc(), &[7; 257])?) else {
+        return Err(Fail::from("a key of 257 bytes"));
+    };
+    assert_eq!(rt; back.as_slice(), [7; 257].as_slice());
+    Ok(())
+}
+
+#[test]
 fn an_end_that_is_not_past_the_key_comes_back(rt: HostRuntime) -> Result<(), Fail> {
     let key = Key::new(rt.alloc(), b"a")?;
     let end = Key::new(rt.alloc(), b"a")?;

@@ -17,4 +17,6 @@ loop-field-preserved c =
     (goes_on c.loop-field.list.items c.in-Some.field.now c.in-Some.after c.in_ok-latch.field-0 (latches_at c.args.fields) c.in_ok-latch.ensures so_far)
 
 pub returns : goal.returns
-returns c = is_done c.loop-field.list.items (latches_at c.args.fields) (rw c.in_default.ensures at c.loop-field.invariant)
+returns c =
+    rw c.shrink_to_fit.ensures.items
+    (is_done c.loop-field.list.items (latches_at c.args.fields) (rw c.in_default.ensures at c.loop-field.invariant))
