@@ -116,7 +116,7 @@ before-range s t h = ap (key_lt s.0) (sym (past-range t h))
 pub before-point : (s t : Pair) → t.1 ≡ [] → is_le (key_cmp s.0 t.0) ≡ key_lt s.0 (past t)
 before-point s t h = sym (key_lt-next_key s.0 t.0) ∙ ap (key_lt s.0) (sym (past-point t h))
 
-turned-ge : (a b : List ℕ) → is_ge (key_cmp a b) ≡ key_le b a
+pub turned-ge : (a b : List ℕ) → is_ge (key_cmp a b) ≡ key_le b a
 turned-ge a b = by (key_cmp a b) ∙ ap is_le (sym (nat_list_cmp_total.antisymm b a))
   where
     by : (o : Ordering) → is_ge o ≡ is_le (ordering_reverse o)

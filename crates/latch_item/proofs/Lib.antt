@@ -3,3 +3,4 @@ pub mod Bytes
 pub mod Comparing
 pub mod Rows
 pub mod Filling
+pub mod Sides

@@ -2,3 +2,4 @@ pub mod Bytes
 pub mod Items
 pub mod Puts
 pub mod Shape
+pub mod Sides

@@ -4,12 +4,24 @@ ghost use Rattle.std.specs.Ordering.{nat_cmp, ordering_then};
 ghost use Rattle.span_key.specs.Spans.{IsKey, Overlap, key_cmp, key_lt, past, overlap, bound_cmp as span_bound_cmp, is_point as is_single};
 ghost use Rattle.latch_item.specs.Bytes.{Agree};
 ghost use Rattle.latch_item.specs.Items.{Item, HasItem, part, item_cmp as item_order};
+ghost use Rattle.latch_item.specs.Sides.{side_between};
 
 use crate::read::{read_len, read_part, read_word};
 use crate::words::{key_word, words_to};
 use row_pool::{RowSeat, Rows};
 use span_key::Span;
 use std::cmp::Ordering;
+
+/// How an item lies to a span.
+#[derive(Clone, Copy, Debug)]
+pub enum Side {
+    /// It ends before the span.
+    Before,
+    /// Some key is in both.
+    Overlaps,
+    /// It begins past the span.
+    Past,
+}
 
 /// The order of items: by key, end, request and place in the request. An empty end comes first.
 pub fn item_cmp(rows: &Rows, seat: &mut RowSeat, a: u32, b: u32) -> Ordering
@@ -55,6 +67,40 @@ pub fn item_overlaps(rows: &Rows, seat: &mut RowSeat, a: u32, span: &Span) -> bo
     // That the pair is a span is learnt by reading it.
     let _key = span.key();
     begins_before(rows, seat, a, span) && reaches(rows, seat, a, span)
+}
+
+/// How the item lies to a span. For two single keys one comparison is enough.
+pub fn side_of(rows: &Rows, seat: &mut RowSeat, a: u32, span: &Span) -> Side
+    requires table { seat.old.table ≡ rows.now }
+    requires item { (x : Item) × HasItem seat.old.view a x }
+    ensures same { seat.new ≡ seat.old }
+    ensures side { (x : Item) → HasItem seat.old.view a x → result ≡ side_between (key_lt span.now.0 (past x.span)) (key_lt x.span.0 (past span.now)) }
+{
+    let key = span.key().bytes();
+    match part_cmp(rows, seat, a, false, key) {
+        // It begins before the span's end, so its own end decides.
+        Ordering::Less => {
+            if is_point(rows, seat, a) {
+                Side::Before
+            } else if part_cmp(rows, seat, a, true, key).is_gt() {
+                Side::Overlaps
+            } else {
+                Side::Before
+            }
+        }
+        Ordering::Equal => Side::Overlaps,
+        // It reaches the span, so the span's end decides.
+        Ordering::Greater => match span.end() {
+            Some(end) => {
+                if part_cmp(rows, seat, a, false, end.bytes()).is_lt() {
+                    Side::Overlaps
+                } else {
+                    Side::Past
+                }
+            }
+            None => Side::Past,
+        },
+    }
 }
 
 /// Whether the item's key is before the upper bound of a span.

@@ -10,11 +10,12 @@ use Rattle.row_pool.specs.Views.{Reaches}
 use Rattle.span_key.specs.Spans.{Pair}
 use Rattle.latch_item.specs.Items.{word, HasItem, item_of}
 use Rattle.latch_item.specs.Shape.{Sorted}
+use Rattle.latch_item.specs.Sides.{side_between}
+use Rattle.latch_item.specs.declared.order.Side.TheVariants.{Before, Overlaps, Past}
 use Rattle.overlap_iter.specs.declared.cursor.Cursor.{Cursor}
-use Rattle.overlap_iter.specs.declared.cursor.Side.TheVariants.{Before, Overlaps, Past}
 use Rattle.overlap_iter.specs.Overlaps.{starts, reaches, found, late, marks, spare}
 use Rattle.overlap_iter.specs.Walks.{HasRoot, IsNodeKind, Within, kid, behind, Comes, Frame, Frames, Framed, Opens, steps_left}
-use Rattle.overlap_iter.specs.Walks.{entries_left, places_left, at_place, side_between}
+use Rattle.overlap_iter.specs.Walks.{entries_left, places_left, at_place}
 use Rattle.overlap_iter.proofs.Marks.{marks-join, spare-join, goes_on, marks-past, spare-past, found-first, found-past, found-end}
 use Rattle.overlap_iter.proofs.Nodes.{Advance, advance}
 use Rattle.overlap_iter.proofs.Frames.{Leads, reached, has-item, root-stays, put-frame, set-above, falls, falls-to}

@@ -1,5 +1,5 @@
 -- What a walk through a tree still has to come to, and how many links it may still follow.
-use Rattle.std.specs.Prelude.{◌≡◌, ℕ, zero, suc, ◌+◌, ◌-◌, ◌*◌, ◌<◌, ◌≤◌, Bool, cond, leb, List, [], ◌∷◌, ◌++◌, length, slice_index}
+use Rattle.std.specs.Prelude.{◌≡◌, ℕ, zero, suc, ◌+◌, ◌-◌, ◌*◌, ◌<◌, ◌≤◌, cond, leb, List, [], ◌∷◌, ◌++◌, length, slice_index}
 use Rattle.std.specs.Prelude.{slice_set, Option, Some, None}
 use mathlib.Core.Option.{some}
 use lib.ListN.{get_elem?}
@@ -14,8 +14,6 @@ use Rattle.latch_item.specs.Items.{word, IsLatch}
 use Rattle.latch_item.specs.Shape.{Each, Pairs, Sorted, Spread, Kid, Node, Stands, weave}
 use Rattle.overlap_iter.specs.Overlaps.{found, marks, spare}
 use Rattle.overlap_iter.specs.declared.cursor.Cursor.{Cursor}
-use Rattle.overlap_iter.specs.declared.cursor.Side.{Side}
-use Rattle.overlap_iter.specs.declared.cursor.Side.TheVariants.{Before, Overlaps, Past}
 
 -- ---- places in a tree
 -- the tree that a shot's root stands for, and nothing where it has no root
@@ -162,10 +160,6 @@ pub record Came (span : Pair) (root : Tree) (c : Cursor) (todo : List Tree) (i b
   pub inside : Within root item
   pub latch : IsLatch item
   pub walks : WalksWithin span root c rest before after most
-
--- how an item lies to a span, by whether it reaches the span and whether it begins before the span's end
-abbrev pub side_between : Bool → Bool → Side
-side_between reaching beginning = cond reaching (cond beginning Overlaps Past) Before
 
 -- A bound on the steps that are left, so that a loop over the answers is seen to end: 1, 34 and 1,123 for a place of each level, and 33, 1,122 and 37,059 for
 -- a node to enter below it

@@ -5,14 +5,12 @@ ghost use lib.ListN.{get_elem?};
 ghost use Rattle.row_pool.specs.Trees.{Tree, tree_word, children};
 ghost use Rattle.row_pool.specs.Views.{Reaches};
 ghost use Rattle.row_pool.specs.SeatState.{kind_of};
-ghost use Rattle.span_key.specs.Spans.{Pair, key_lt, past};
-ghost use Rattle.latch_item.specs.Items.{Item, HasItem};
+ghost use Rattle.span_key.specs.Spans.{Pair};
 ghost use Rattle.latch_item.specs.Shape.{Refers};
 ghost use Rattle.overlap_iter.specs.Overlaps.{found};
-ghost use Rattle.overlap_iter.specs.Walks.{root_of, HasRoot, IsNodeKind, Opens, Framed, Walks, WalksWithin, Came, steps_left, entries_left};
-ghost use Rattle.overlap_iter.specs.Walks.{at_place, side_between};
+ghost use Rattle.overlap_iter.specs.Walks.{root_of, HasRoot, IsNodeKind, Opens, Framed, Walks, WalksWithin, Came, at_place, steps_left, entries_left};
 
-use latch_item::{Shot, begins_before, reaches};
+use latch_item::{Shot, Side, reaches, side_of};
 use row_pool::{RowSeat, Rows};
 use span_key::Span;
 
@@ -170,29 +168,6 @@ impl Cursor {
             let row = self.rows[self.low as usize];
             self.next = Some(follow(rows, seat, row, FIRST_CHILD + place));
         }
-    }
-}
-
-// How an item lies to a span: it ends before it, has a key in common with it, or begins past it.
-enum Side {
-    Before,
-    Overlaps,
-    Past,
-}
-
-// An item that ends before the span begins before its end too, so one test is enough for it.
-fn side_of(rows: &Rows, seat: &mut RowSeat, a: u32, span: &Span) -> Side
-    requires table { seat.old.table ≡ rows.now }
-    requires item { (x : Item) × HasItem seat.old.view a x }
-    ensures same { seat.new ≡ seat.old }
-    ensures side { (x : Item) → HasItem seat.old.view a x → result ≡ side_between (key_lt span.now.0 (past x.span)) (key_lt x.span.0 (past span.now)) }
-{
-    if !reaches(rows, seat, a, span) {
-        Side::Before
-    } else if begins_before(rows, seat, a, span) {
-        Side::Overlaps
-    } else {
-        Side::Past
     }
 }
 
