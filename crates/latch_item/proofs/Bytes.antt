@@ -1,14 +1,14 @@
 -- Bytes in words, and back.
 use Rattle.std.proofs.Common.{◌≡◌, ℕ, zero, suc, ◌+◌, ◌-◌, ◌*◌, ◌/◌, ◌%◌, ◌^◌, ◌<◌, ◌≤◌, List, [], ◌∷◌, ◌++◌, length, map, take, slice_index, sym, refl, ap}
-use Rattle.std.proofs.Common.{◌∙◌, arith}
+use Rattle.std.proofs.Common.{◌∙◌, subst, arith}
 use native.Mathlib.Numerals.{unary_clauses}
 use Rattle.std.proofs.lemmas.List.{take-take}
-use Rattle.std.proofs.lemmas.Nat.{div-mul-add, mod-mul-add, shr-shr}
+use Rattle.std.proofs.lemmas.Nat.{div-mul-add, mod-mul-add, shr-shr, pow-add, pow_pos}
 use Rattle.std.specs.Int.{w64, from_be_bytes, to_be_bytes}
 use Rattle.span_key.specs.Spans.{IsBytes}
 use Rattle.latch_item.specs.Bytes.{byte, rest, number, skip, key_word, spelled, bytes_of}
 use Rattle.latch_item.specs.Items.{run}
-use Rattle.latch_item.proofs.Packing.{Bytes, packed, padded, byte-low, padded-join, skip-bytes}
+use Rattle.latch_item.proofs.Packing.{Bytes, packed, padded, byte-low, mono, number-low, padded-join, skip-bytes}
 
 no-byte : (k : ℕ) → slice_index [] k ≡ 0
 no-byte zero = refl
@@ -153,18 +153,74 @@ whole at bs =
     here k = ap byte (skip-add at k bs) ∙ byte-skip (at + k) bs
 
 -- past the end of a key stands 0
-pub past-end : (at : ℕ) (bs : List ℕ) → length bs ≤ at → number 8 (skip at bs) ≡ 0
-past-end at bs h = ap (number 8) (none at bs h)
-  where
-    nothing : (at : ℕ) → skip at [] ≡ []
-    nothing zero = refl
-    nothing (suc at) = nothing at
+number-none : (m : ℕ) → number m [] ≡ 0
+number-none zero = refl
+number-none (suc m) = let h = number-none m in let z : 0 * 256 ^ m + number m [] ≡ 0 = omega arith in z
 
-    none : (at : ℕ) (bs : List ℕ) → length bs ≤ at → skip at bs ≡ []
-    none zero [] h = refl
-    none zero (b ∷ bs) h = absurd (omega arith)
-    none (suc at) [] h = nothing at
-    none (suc at) (b ∷ bs) h = none at bs (omega arith)
+skip-none : (at : ℕ) (bs : List ℕ) → length bs ≤ at → skip at bs ≡ []
+skip-none zero [] h = refl
+skip-none zero (b ∷ bs) h = absurd (omega arith)
+skip-none (suc at) [] h = skip-none at [] (omega arith)
+skip-none (suc at) (b ∷ bs) h = skip-none at bs (omega arith)
+
+pub past-end : (at : ℕ) (bs : List ℕ) → length bs ≤ at → number 8 (skip at bs) ≡ 0
+past-end at bs h = ap (number 8) (skip-none at bs h)
+
+-- ---- the last bytes of a key
+number-join : (m k : ℕ) (bs : List ℕ) → number (m + k) bs ≡ number m bs * 256 ^ k + number k (skip m bs)
+number-join zero k bs = ap (λ n. number n bs) (let z : 0 + k ≡ k = omega arith in z) ∙ (let z : number k bs ≡ 0 * 256 ^ k + number k bs = omega arith in z)
+number-join (suc m) k bs =
+    let h = number-join m k (rest bs) in
+    let e : 256 ^ (m + k) ≡ 256 ^ m * 256 ^ k = pow-add 256 m k in
+    let a : number (suc (m + k)) bs ≡ byte bs * 256 ^ (m + k) + number (m + k) (rest bs) = refl in
+    ap (λ n. number n bs) (let z : suc m + k ≡ suc (m + k) = omega arith in z) ∙ a
+    ∙ (λ i. byte bs * e i + h i)
+    ∙ join (byte bs) (256 ^ m) (256 ^ k) (number m (rest bs)) (number k (skip m (rest bs)))
+  where
+    join : (b p q u v : ℕ) → b * (p * q) + (u * q + v) ≡ (b * p + u) * q + v
+    join b p q u v = grind arith
+
+bits : (m : ℕ) → 2 ^ (8 * m) ≡ 256 ^ m
+bits zero = refl
+bits (suc m) = ap (λ n. 2 ^ n) (let z : 8 * suc m ≡ 8 + 8 * m = omega arith in z) ∙ pow-add 2 8 (8 * m)
+    ∙ (let h = bits m in let e : 256 ^ suc m ≡ 256 ^ m * 256 = simp unary_clauses in let z : 256 * 2 ^ (8 * m) ≡ 256 ^ suc m = omega arith in z)
+
+-- of eight bytes, behind which there are none, the first m are shifted out
+shifted-out : (m k : ℕ) (bs : List ℕ) → m + k ≡ 8 → length bs ≤ 8 → Bytes bs → number 8 bs * 2 ^ (8 * m) % 2 ^ 64 ≡ number 8 (skip m bs)
+shifted-out m k bs e short h =
+    let p : ℕ = 256 ^ m in let q : ℕ = 256 ^ k in
+    let u : ℕ = number m bs in let v : ℕ = number k (skip m bs) in
+    let whole : q * p ≡ 2 ^ 64 = sym (pow-add 256 k m) ∙ ap (λ n. 256 ^ n) (let z : k + m ≡ 8 = omega arith in z) in
+    let all : number 8 bs ≡ u * q + v = ap (λ n. number n bs) (sym e) ∙ number-join m k bs in
+    let none : number m (skip k (skip m bs)) ≡ 0 = ap (number m) (skip-add m k bs ∙ skip-none (m + k) bs (omega arith)) ∙ number-none m in
+    let last : number 8 (skip m bs) ≡ v * p = ap (λ n. number n (skip m bs)) (let z : 8 ≡ k + m = omega arith in z) ∙ number-join k m (skip m bs)
+    ∙ (let z : v * p + number m (skip k (skip m bs)) ≡ v * p = omega arith in z) in
+    let low : v * p < 2 ^ 64 = under v q p whole (number-low k (skip m bs) (skip-bytes m bs h)) (power-above m) in
+    (λ i. all i * bits m i % 2 ^ 64) ∙ ap (λ n. n % 2 ^ 64) (spread u q v p ∙ ap (λ n. u * n + v * p) whole) ∙ mod-mul-add u (2 ^ 64) (v * p) low ∙ sym last
+  where
+    spread : (u q v p : ℕ) → (u * q + v) * p ≡ u * (q * p) + v * p
+    spread u q v p = grind arith
+
+    under : (v q p : ℕ) {n : ℕ} → q * p ≡ n → v < q → 0 < p → v * p < n
+    under v q p e l low = let a = mono v q p l in omega arith
+
+    power-above : (m : ℕ) → 0 < 256 ^ m
+    power-above m = subst (λ n. 0 < n) (bits m) (pow_pos (8 * m))
+
+-- the last eight bytes of a key, and those of them from a place on
+pub last-bytes : (at shift : ℕ) (bs : List ℕ) → Bytes bs → 8 ≤ length bs → at < length bs → length bs ≤ at + 8 → shift ≡ 8 * (at + 8 - length bs)
+    → number 8 (skip (length bs - 8) bs) * 2 ^ shift % 2 ^ 64 ≡ number 8 (skip at bs)
+last-bytes at shift bs h long low near e =
+    let n : ℕ = length bs - 8 in let m : ℕ = at + 8 - length bs in
+    let z : n + m ≡ at = omega arith in
+    ap (λ j. number 8 (skip n bs) * 2 ^ j % 2 ^ 64) e
+    ∙ shifted-out m (8 - m) (skip n bs) (omega arith) (let s = skip-length n bs in omega arith) (skip-bytes n bs h)
+    ∙ ap (number 8) (skip-add n m bs) ∙ ap (λ j. number 8 (skip j bs)) z
+  where
+    skip-length : (n : ℕ) (bs : List ℕ) → length (skip n bs) ≡ length bs - n
+    skip-length zero bs = omega arith
+    skip-length (suc n) [] = skip-length n [] ∙ (let z : 0 - n ≡ 0 - suc n = omega arith in z)
+    skip-length (suc n) (b ∷ bs) = skip-length n bs ∙ (let z : length bs - n ≡ suc (length bs) - suc n = omega arith in z)
 
 -- the bytes of a word as std writes them
 pub spelled-be : (w : ℕ) → to_be_bytes w64 w ≡ spelled 8 w

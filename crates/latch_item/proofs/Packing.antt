@@ -20,7 +20,7 @@ pub rest-bytes : (bs : List ℕ) → Bytes bs → Bytes (rest bs)
 rest-bytes [] h = tt
 rest-bytes (b ∷ bs) h = h.1
 
-mono : (x y p : ℕ) → x < y → x * p + p ≤ y * p
+pub mono : (x y p : ℕ) → x < y → x * p + p ≤ y * p
 mono x y zero h = omega arith
 mono x y (suc p) h = let a = mono x y p h in grind arith
 

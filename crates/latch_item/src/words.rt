@@ -36,8 +36,22 @@ fn whole_word(bytes: &[u8], at: usize) -> u64
     ])
 }
 
-// Eight bytes, of which some may be past the end.
+// Eight bytes, of which the last ones are past the end.
 fn last_word(bytes: &[u8], at: usize) -> u64
+    requires { (at < length bytes.now) × (length bytes.now ≤ at + 8) × (at < 256) }
+    ensures { result ≡ number 8 (skip at bytes.now) }
+{
+    let len = bytes.len();
+    if len < 8 {
+        short_word(bytes, at)
+    } else {
+        // The last eight bytes of all, of which those in front of the place are shifted out.
+        whole_word(bytes, len - 8) << (8 * (at + 8 - len))
+    }
+}
+
+// The same where there are fewer than eight bytes in all.
+fn short_word(bytes: &[u8], at: usize) -> u64
     requires { at < 256 }
     ensures { result ≡ number 8 (skip at bytes.now) }
 {

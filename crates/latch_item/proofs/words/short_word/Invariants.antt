@@ -1,6 +1,6 @@
 use Rattle.std.proofs.Common.{◌≡◌, ◌^◌, ◌<◌}
 use Rattle.latch_item.specs.Bytes.{number, skip}
-use Rattle.latch_item.proofs.words.last_word.Given as goal
+use Rattle.latch_item.proofs.words.short_word.Given as goal
 
 abbrev pub invariant-loop-k : goal.invariant-loop-k
 invariant-loop-k l = record {
