@@ -2,7 +2,7 @@
 ghost use Rattle.std.specs.Prelude.{◌≡◌, ◌↔◌, ℕ, ◌*◌, ◌≤◌, IsTrue};
 ghost use Rattle.std.specs.Ordering.{nat_cmp, ordering_then};
 ghost use Rattle.span_key.specs.Spans.{IsKey, Overlap, key_cmp, key_lt, past, overlap, bound_cmp as span_bound_cmp, is_point as is_single};
-ghost use Rattle.latch_item.specs.Bytes.{Agree};
+ghost use Rattle.latch_item.specs.Bytes.{Agree, key_word as key_word_of};
 ghost use Rattle.latch_item.specs.Items.{Item, HasItem, part, item_cmp as item_order};
 ghost use Rattle.latch_item.specs.Sides.{side_between};
 
@@ -69,20 +69,21 @@ pub fn item_overlaps(rows: &Rows, seat: &mut RowSeat, a: u32, span: &Span) -> bo
     begins_before(rows, seat, a, span) && reaches(rows, seat, a, span)
 }
 
-/// How the item lies to a span. For two single keys one comparison is enough.
-pub fn side_of(rows: &Rows, seat: &mut RowSeat, a: u32, span: &Span) -> Side
+/// How the item lies to a span, of whose key the first word is given. For two single keys one comparison is enough.
+pub fn side_of(rows: &Rows, seat: &mut RowSeat, a: u32, span: &Span, first: u64) -> Side
     requires table { seat.old.table ≡ rows.now }
     requires item { (x : Item) × HasItem seat.old.view a x }
+    requires first { first ≡ key_word_of span.now.0 0 }
     ensures same { seat.new ≡ seat.old }
     ensures side { (x : Item) → HasItem seat.old.view a x → result ≡ side_between (key_lt span.now.0 (past x.span)) (key_lt x.span.0 (past span.now)) }
 {
     let key = span.key().bytes();
-    match part_cmp(rows, seat, a, false, key) {
+    match part_cmp_by(rows, seat, a, false, key, first) {
         // It begins before the span's end, so its own end decides.
         Ordering::Less => {
             if is_point(rows, seat, a) {
                 Side::Before
-            } else if part_cmp(rows, seat, a, true, key).is_gt() {
+            } else if part_cmp_by(rows, seat, a, true, key, first).is_gt() {
                 Side::Overlaps
             } else {
                 Side::Before
@@ -131,7 +132,7 @@ pub fn reaches(rows: &Rows, seat: &mut RowSeat, a: u32, span: &Span) -> bool
     }
 }
 
-// The key, or the end, of an item against a key. Words are compared up to the first that differs, and none past the shorter of the two.
+// The key, or the end, of an item against a key.
 fn part_cmp(rows: &Rows, seat: &mut RowSeat, a: u32, end: bool, bytes: &[u8]) -> Ordering
     requires key { IsKey bytes.now }
     requires table { seat.old.table ≡ rows.now }
@@ -139,10 +140,29 @@ fn part_cmp(rows: &Rows, seat: &mut RowSeat, a: u32, end: bool, bytes: &[u8]) ->
     ensures same { seat.new ≡ seat.old }
     ensures order { (x : Item) → HasItem seat.old.view a x → result ≡ key_cmp (part end x.span) bytes.now }
 {
+    let first = key_word(bytes, 0);
+    part_cmp_by(rows, seat, a, end, bytes, first)
+}
+
+// The same where the key's first word is given. Words are compared up to the first that differs, and none past the shorter of the two.
+fn part_cmp_by(
+    rows: &Rows,
+    seat: &mut RowSeat,
+    a: u32,
+    end: bool,
+    bytes: &[u8],
+    first: u64,
+) -> Ordering
+    requires key { IsKey bytes.now }
+    requires table { seat.old.table ≡ rows.now }
+    requires item { (x : Item) × HasItem seat.old.view a x }
+    requires first { first ≡ key_word_of bytes.now 0 }
+    ensures same { seat.new ≡ seat.old }
+    ensures order { (x : Item) → HasItem seat.old.view a x → result ≡ key_cmp (part end x.span) bytes.now }
+{
     let word = read_part(rows, seat, a, end, 0);
-    let other = key_word(bytes, 0);
-    if word != other {
-        word.cmp(&other)
+    if word != first {
+        word.cmp(&first)
     } else {
         later_part_cmp(rows, seat, a, end, bytes)
     }

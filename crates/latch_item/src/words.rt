@@ -2,7 +2,14 @@
 ghost use Rattle.std.specs.Prelude.{◌≡◌, ℕ, ◌+◌, ◌*◌, ◌<◌, ◌≤◌, length};
 ghost use Rattle.latch_item.specs.Bytes.{byte, number, skip, key_word as key_word_of};
 
-use span_key::Span;
+use span_key::{Key, Span};
+
+/// The first eight bytes of a key as a number, with zeros after the key's end. Where those of two keys differ, the keys are in their order.
+pub fn first_word(key: &Key) -> u64
+    ensures { result ≡ key_word_of key.now 0 }
+{
+    key_word(key.bytes(), 0)
+}
 
 /// Eight bytes of a key, from the byte 8 i on, with zeros after the key's end.
 pub(crate) fn key_word(bytes: &[u8], i: u32) -> u64
