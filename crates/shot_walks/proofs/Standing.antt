@@ -1,5 +1,5 @@
 -- Where a request stands in what it waits for.
-use Rattle.std.proofs.Common.{◌≡◌, ℕ, false, ◌∷◌, drop, Option, Some, None, refl, sym, ap, arith, subst}
+use Rattle.std.proofs.Common.{◌≡◌, ◌∙◌, ℕ, false, List, [], ◌∷◌, ◌++◌, drop, Option, Some, None, refl, sym, ap, arith, subst}
 use Rattle.std.specs.List.{Contains, cons_option}
 use Rattle.latch_model.specs.Declaration.{Declaration}
 use Rattle.latch_model.specs.Histories.{HeldLatch, Snapshot, has_ended, in_waiting_order, met_in}
@@ -10,9 +10,10 @@ use Rattle.latch_shots.specs.Met.{IsMet}
 use Rattle.latch_shots.specs.Shots.{Content, ShowsSnapshot}
 use Rattle.latch_shots.specs.declared.met.MetLatch.{MetLatch}
 use Rattle.shot_walks.specs.Places.{ComesTo, FindsOpen, IsAt, Stands}
-use Rattle.shot_walks.specs.Waits.{Learns, Passed, waits_for}
+use Rattle.shot_walks.specs.Waits.{AllEnded, Learns, Passed, waits_for}
 use Rattle.shot_walks.specs.declared.place.Place.{Place}
-use Rattle.shot_walks.proofs.Ends.{not_shown_still, passed_ahead, passed_grow, passed_next, waits_stay}
+use Rattle.shot_walks.proofs.Ends.{ended_none, not_shown_still, passed_ahead, passed_grow, passed_next, passed_whole, waits_stay}
+use Rattle.shot_walks.proofs.Orders.{met_before, met_from, met_parts}
 
 -- A request stands where it stood when it learns of more ends, and whatever else changes of it but its latches and its snapshot.
 pub stands-stays : (c : Content) (p : Place) (r t : RequestView) (last : Option HeldLatch) → t.request ≡ r.request → t.shot ≡ r.shot
@@ -36,6 +37,22 @@ stands-learnt c p s t last a =
 -- It stands there in the shots, whatever links are followed in them.
 pub stands-in : (c d : Content) (p : Place) (r : RequestView) (last : Option HeldLatch) → d ≡ c → Stands c p r last → Stands d p r last
 stands-in c d p r last same h = subst (λ (z : Content). Stands z p r last) (sym same) h
+
+-- ---- behind all that it waits for
+-- Where that is nothing, it stands there, whatever the number of the latch with which it goes on.
+pub stands-end : (c : Content) (k : ℕ) (r : RequestView) → ShowsSnapshot c r.shot → waits_for r ≡ []
+    → Stands c (record { ask = k; walk = None; met = None }) r None
+stands-end c k r shows none = record {
+  shows = shows;
+  at = tt;
+  later = [];
+  comes = sym (behind_none (met_before r k) (met_from r k) (sym (met_parts r k) ∙ none));
+  passed = passed_whole r.ended (waits_for r) (subst (AllEnded r.ended) (sym none) (ended_none r.ended));
+}
+  where
+    behind_none : (xs ys : List HeldLatch) → xs ++ ys ≡ [] → ys ≡ []
+    behind_none [] ys e = e
+    behind_none (x ∷ xs) ys e = cc
 
 -- ---- the held latch at which it stands
 pub at_some : (v : SeatView) (kept : Option MetLatch) (m : MetLatch) (last : Option HeldLatch) → kept ≡ Some m → IsAt v kept last

@@ -1,5 +1,5 @@
 // How far a request has come in what it waits for.
-ghost use Rattle.std.specs.Prelude.{◌≡◌, true, false, List, ◌∷◌, ◌++◌, Option, Some, None, IfSome, MatchOption};
+ghost use Rattle.std.specs.Prelude.{◌≡◌, true, false, List, [], ◌∷◌, ◌++◌, Option, Some, None, IfSome, MatchOption};
 ghost use Rattle.std.specs.List.{Contains, flat_map};
 ghost use Rattle.latch_model.specs.Histories.{HeldLatch, Snapshot, has_ended, met_by};
 ghost use Rattle.latch_model.specs.declared.latch.Latch.{Latch as latch};
@@ -9,7 +9,7 @@ ghost use Rattle.latch_shots.specs.Shots.{AreShots, Content, ShowsSnapshot, cont
 ghost use Rattle.latch_shots.specs.Walks.{Meets};
 ghost use Rattle.shot_walks.specs.Orders.{IsOrder};
 ghost use Rattle.shot_walks.specs.Places.{ComesTo, Finds, FindsNone, FindsOpen, Stands};
-ghost use Rattle.shot_walks.specs.Waits.{Learns};
+ghost use Rattle.shot_walks.specs.Waits.{Learns, waits_for};
 
 use crate::open::{is_open, next_open};
 use latch_model::latch::Latch;
@@ -43,6 +43,17 @@ impl Place {
     {
         Place {
             ask: 0,
+            walk: None,
+            met: None,
+        }
+    }
+
+    /// Behind all for which a request waits, where that is nothing.
+    pub fn end() -> Place
+        ensures { (c : Content) (r : RequestView) → ShowsSnapshot c r.shot → waits_for r ≡ [] → Stands c result r None }
+    {
+        Place {
+            ask: usize::MAX,
             walk: None,
             met: None,
         }

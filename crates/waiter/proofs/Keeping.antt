@@ -1,9 +1,9 @@
 -- What a request keeps while it learns more.
-use Rattle.std.proofs.Common.{◌≡◌, ◌≤◌, ◌∙◌, ℕ, List, ◌++◌, Option, None, refl, sym, ap, subst}
+use Rattle.std.proofs.Common.{◌≡◌, ◌≤◌, ◌∙◌, ℕ, List, [], ◌∷◌, ◌++◌, map, Option, None, refl, sym, ap, subst, inl}
 use Rattle.std.specs.List.{Contains}
 use Rattle.atomic_table.specs.Seated.{TableId}
 use Rattle.latch_model.specs.Declaration.{Declaration}
-use Rattle.latch_model.specs.Histories.{HeldLatch}
+use Rattle.latch_model.specs.Histories.{HeldLatch, ascending}
 use Rattle.latch_model.specs.declared.history.Cause.{Cause}
 use Rattle.latch_model.specs.declared.history.Entry.{Entry}
 use Rattle.latch_model.specs.declared.history.Fault.{Fault}
@@ -11,7 +11,8 @@ use Rattle.latch_model.specs.declared.history.Fault.TheVariants as fault
 use Rattle.latch_model.specs.declared.history.Grant.{Grant}
 use Rattle.latch_model.specs.declared.history.Grant.TheVariants.{Never, Waited, Checked}
 use Rattle.latch_model.specs.declared.latch.Mode.{Mode}
-use Rattle.latch_model.proofs.Lists.{Contains-from_In, In-append_right, In-from_Contains}
+use Rattle.latch_model.proofs.Ascending.{In-ascending}
+use Rattle.latch_model.proofs.Lists.{Contains-from_In, In, In-append_right, In-from_Contains}
 use Rattle.latch_model.specs.declared.latch.Latch.{Latch}
 use Rattle.latch_shots.specs.Shots.{AreShots, Content, IsReturned, ShowsSnapshot, content_of}
 use Rattle.latch_shots.specs.declared.shots.Returned.{Returned}
@@ -19,7 +20,7 @@ use Rattle.latch_shots.specs.declared.shots.Shots.{Shots}
 use Rattle.shot_walks.specs.declared.place.Place.{Place}
 use Rattle.shot_walks.specs.Orders.{IsOrder}
 use Rattle.shot_walks.specs.Places.{Stands}
-use Rattle.shot_walks.specs.Waits.{Learns}
+use Rattle.shot_walks.specs.Waits.{Learns, waits_for}
 use Rattle.shot_walks.proofs.Standing.{stands-in, stands-stays}
 use Rattle.signal_board.specs.Rule.{IsPrerequisite}
 use Rattle.signal_board.specs.Says.{LaneSays, shown_to}
@@ -170,6 +171,42 @@ pub walk_starts : (r : RequestView) (request : Declaration) (shots : Shots) (lat
 walk_starts r request shots latches order place are is o shows starts = record {
   order_is = subst (IsOrder order) (are ∙ ap (λ (d : Declaration). d.latches) is) o;
   stands = starts (content_of shots) r shows;
+}
+
+-- ---- nothing to wait for
+-- Where no number is listed, no held latch is.
+none_listed : (xs : List HeldLatch) → ascending (map (λ x. x.by) xs) ≡ [] → xs ≡ []
+none_listed [] e = refl
+none_listed (x ∷ xs) e = absurd (subst (In x.by) e (In-ascending x.by (x.by ∷ map (λ y. y.by) xs) (inl refl)))
+
+-- A request that waits for nothing stands at no held latch, and may go on behind all.
+walk_ends : (r : RequestView) (shots : Shots) (order : List ℕ) (place end : Place) (turns : ℕ) (last : Last) → waits_for r ≡ [] →
+    ((c : Content) (q : RequestView) → ShowsSnapshot c q.shot → waits_for q ≡ [] → Stands c end q None) → LastGiven r turns last →
+    WalkKept r shots order place last → WalkKept r shots order end last
+walk_ends r shots order place end turns last none ends given w = record {
+  order_is = w.order_is;
+  stands = subst (Stands (content_of shots) end r) (sym (nowhere last given)) (ends (content_of shots) r w.stands.shows none);
+}
+  where
+    never : (x : HeldLatch) → Contains (waits_for r) x → ⊥
+    never x has = In-from_Contains [] x (subst (λ (xs : List HeldLatch). Contains xs x) none has)
+
+    nowhere : (last : Last) → LastGiven r turns last → stood_at last ≡ None
+    nowhere Unpolled g = refl
+    nowhere Ready g = refl
+    nowhere (Blocked x) g = absurd (never x g.0)
+    nowhere (Poisoned x) g = absurd (never x g.0)
+
+pub waiting_ends : (who : ℕ) (mode : Mode) (request : Declaration) (shots : Shots) (turns : ℕ) (last : Last) (order : List ℕ) (place end : Place)
+    (s : LaneSays) → ascending (map (λ x. x.by) (waits_for s.r)) ≡ [] →
+    ((c : Content) (q : RequestView) → ShowsSnapshot c q.shot → waits_for q ≡ [] → Stands c end q None) →
+    WaitingKept who mode request shots turns last order place s → WaitingKept who mode request shots turns last order end s
+waiting_ends who mode request shots turns last order place end s none ends g = record {
+  who_is = g.who_is;
+  mode_is = g.mode_is;
+  request_is = g.request_is;
+  given = g.given;
+  walk = walk_ends s.r shots order place end turns last (none_listed (waits_for s.r) none) ends g.given g.walk;
 }
 
 -- a fault that the last poll allows

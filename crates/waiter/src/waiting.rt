@@ -200,13 +200,18 @@ impl Waiting {
         ensures numbers { IfOk result (λ ids. ids.items ≡ ascending (map (λ x. x.by) (waits_for self.old.r))) }
         ensures same { self.new ≡ self.old }
     {
-        numbers_met(
+        let ids = numbers_met(
             alloc,
             &core.rows,
             &mut self.shots,
             self.request.latches().list(),
             self.order.as_slice(),
-        )
+        )?;
+        // Where it waits for nothing, no poll has to walk over its shots again.
+        if ids.is_empty() {
+            self.place = Place::end();
+        }
+        Ok(ids)
     }
 
     /// The cause becomes Called, unless there is one.
