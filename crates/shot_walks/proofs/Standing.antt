@@ -39,7 +39,7 @@ pub stands-in : (c d : Content) (p : Place) (r : RequestView) (last : Option Hel
 stands-in c d p r last same h = subst (λ (z : Content). Stands z p r last) (sym same) h
 
 -- ---- behind all that it waits for
--- Where that is nothing, it stands there, whatever the number of the latch with which it goes on.
+-- A request that waits for nothing stands there, whatever the number of the latch with which it goes on.
 pub stands-end : (c : Content) (k : ℕ) (r : RequestView) → ShowsSnapshot c r.shot → waits_for r ≡ []
     → Stands c (record { ask = k; walk = None; met = None }) r None
 stands-end c k r shows none = record {

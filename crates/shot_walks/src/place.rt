@@ -48,11 +48,12 @@ impl Place {
         }
     }
 
-    /// Behind all for which a request waits, where that is nothing.
+    /// Behind all for which a request waits, where it waits for nothing.
     pub fn end() -> Place
         ensures { (c : Content) (r : RequestView) → ShowsSnapshot c r.shot → waits_for r ≡ [] → Stands c result r None }
     {
         Place {
+            // behind each latch, so that no walk begins
             ask: usize::MAX,
             walk: None,
             met: None,
