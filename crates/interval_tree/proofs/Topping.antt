@@ -1,5 +1,5 @@
 -- The first link of a node is set.
-use Rattle.std.proofs.Common.{◌≡◌, ◌≢◌, ⊎_elim, inl, inr, ℕ, zero, suc, ◌+◌, ◌-◌, ◌<◌, ◌≤◌, ◌^◌, List, [], ◌∷◌, ◌++◌, length, replicate, length-append}
+use Rattle.std.proofs.Common.{◌≡◌, ◌≢◌, ⊎_elim, ℕ, zero, suc, ◌+◌, ◌-◌, ◌<◌, ◌≤◌, ◌^◌, List, [], ◌∷◌, ◌++◌, length, replicate, length-append}
 use Rattle.std.proofs.Common.{append_assoc, sym, refl, ap, ◌∙◌, subst, arith}
 use Rattle.std.proofs.lemmas.List.{length-replicate}
 use Rattle.row_pool.proofs.NewestRef.{tree_of-first, without_tree-first}
@@ -14,36 +14,46 @@ use Rattle.interval_tree.proofs.Copying.{held-others}
 use Rattle.interval_tree.proofs.Frames.{others-join, owns-grows, owns-same, spends-grows, spends-join, spends-others}
 use Rattle.interval_tree.proofs.Greatest.{weave-below, weave-each, weave-item}
 use Rattle.interval_tree.proofs.Holes.{pairs-length}
-use Rattle.interval_tree.proofs.Lists.{bound-trans, each-map}
+use Rattle.interval_tree.proofs.Lists.{among-front, among-here, bound-trans, each-back, each-front, each-join, each-map}
 use Rattle.interval_tree.proofs.Rows.{back-cons, named-zero, up-link}
 use Rattle.interval_tree.specs.Held.{OthersStand, OwnsNode, Spends}
 use Rattle.interval_tree.specs.Nodes.{Body, LevelKid, Many, joined}
-use Rattle.interval_tree.specs.States.{Best, Greatest}
+use Rattle.interval_tree.specs.States.{Best, Greatest, ReachesItem}
 use Rattle.interval_tree.specs.Steps.{BestBelow, BestItem, CanSwap, HasChildren, HasItems, LeadsTo, Swaps}
 
--- the links as the search meets them
+-- the last of some items, and those in front of it
+pub record Ends (xs : List Tree) : Type 0 where
+  pub front : List Tree
+  pub last : Tree
+  pub whole : xs ≡ front ++ last ∷ []
+
+pub ends : (x : Tree) (xs : List Tree) → Ends (x ∷ xs)
+ends x [] = record { front = []; last = x; whole = refl }
+ends x (y ∷ ys) = let e = ends y ys in record { front = x ∷ e.front; last = e.last; whole = ap (λ l. x ∷ l) e.whole }
+
+-- the links as the search meets them: the last item, those in front of it, and the children
 pub record Meets (h kind n : ℕ) (us xs : List Tree) : Type 0 where
   pub top : Tree
   pub tail : List Tree
-  pub first : Tree
   pub its : List Tree
+  pub last : Tree
   pub cs : List Tree
   pub yss : List (List Tree)
   pub vs : List Tree
   pub ws : List Tree
   pub front : List Tree
   pub whole : us ≡ top ∷ tail
-  pub one : us ≡ (top ∷ []) ++ first ∷ (its ++ vs)
+  pub one : us ≡ top ∷ (its ++ last ∷ vs)
   pub three : us ≡ front ++ (cs ++ ws)
   pub long : length front ≡ 32
   pub few : suc (length its) ≡ n
   pub low : n ≤ 31
   pub many : Many h (length cs) n
-  pub latch : IsLatch first
+  pub latch : IsLatch last
   pub items : Each IsLatch its
   pub pairs : Pairs (LevelKid h) cs yss
-  pub list : xs ≡ weave (first ∷ its) yss
-  pub lists_few : length yss ≤ suc (suc (length its))
+  pub list : xs ≡ weave (its ++ last ∷ []) yss
+  pub lists_few : length yss ≤ suc (length (its ++ last ∷ []))
 
 pub many-low : (h c n : ℕ) → Many h c n → c ≤ suc n
 many-low zero c n m = omega arith
@@ -54,37 +64,44 @@ many-same zero a b n p q = p ∙ sym q
 many-same (suc h) a b n p q = p ∙ sym q
 
 pub meets : (h kind n : ℕ) (us xs : List Tree) → Body h kind n us xs → 1 ≤ n → Meets h kind n us xs
-meets h kind n us xs b some_items = go b.its b.spread b.list b.items
+meets h kind n us xs b some_items = start b.its b.spread b.list b.items
   where
-    go : (its : List Tree) → Spread n us b.top its b.cs → xs ≡ weave its b.yss → Each IsLatch its → Meets h kind n us xs
-    go [] s l i = absurd (let a = s.count in omega arith)
-    go (x ∷ its) s l i =
+    go : (its : List Tree) (last : Tree) → Spread n us b.top (its ++ last ∷ []) b.cs → xs ≡ weave (its ++ last ∷ []) b.yss
+        → Each IsLatch (its ++ last ∷ []) → Meets h kind n us xs
+    go its last s l i =
         let m = many-low h (length b.cs) n b.many in
         let e = pairs-length (LevelKid h) b.cs b.yss b.below in
         record {
           top = b.top;
-          tail = ((x ∷ its) ++ replicate s.free nil) ++ (b.cs ++ replicate s.room nil);
-          first = x;
+          tail = ((its ++ last ∷ []) ++ replicate s.free nil) ++ (b.cs ++ replicate s.room nil);
           its = its;
+          last = last;
           cs = b.cs;
           yss = b.yss;
           vs = replicate s.free nil ++ (b.cs ++ replicate s.room nil);
           ws = replicate s.room nil;
-          front = b.top ∷ ((x ∷ its) ++ replicate s.free nil);
+          front = b.top ∷ ((its ++ last ∷ []) ++ replicate s.free nil);
           whole = s.links;
-          one = s.links ∙ ap (λ l. b.top ∷ x ∷ l) (append_assoc its (replicate s.free nil) (b.cs ++ replicate s.room nil));
+          one = s.links ∙ ap (λ l. b.top ∷ l) (append_assoc (its ++ last ∷ []) (replicate s.free nil) (b.cs ++ replicate s.room nil)
+              ∙ append_assoc its (last ∷ []) (replicate s.free nil ++ (b.cs ++ replicate s.room nil)));
           three = s.links;
-          long = (let a = s.count in let c = s.items in let d = length-replicate {A = Tree} s.free nil in let g = length-append its (replicate s.free nil) in
-              omega arith);
-          few = s.count;
+          long = (let a = s.count in let c = s.items in let d = length-replicate {A = Tree} s.free nil in
+              let g = length-append (its ++ last ∷ []) (replicate s.free nil) in omega arith);
+          few = (let a = s.count in let c = length-append its (last ∷ []) in omega arith);
           low = (let a = s.items in omega arith);
           many = b.many;
-          latch = i.0;
-          items = i.1;
+          latch = (each-back IsLatch its (last ∷ []) i).0;
+          items = each-front IsLatch its (last ∷ []) i;
           pairs = b.below;
           list = l;
           lists_few = (let a = s.count in omega arith);
         }
+
+    start : (its : List Tree) → Spread n us b.top its b.cs → xs ≡ weave its b.yss → Each IsLatch its → Meets h kind n us xs
+    start [] s l i = absurd (let a = s.count in omega arith)
+    start (x ∷ its) s l i =
+        let e = ends x its in
+        go e.front e.last (subst (λ k. Spread n us b.top k b.cs) e.whole s) (l ∙ ap (λ k. weave k b.yss) e.whole) (subst (Each IsLatch) e.whole i)
 
 pub many-inner : (h kind n : ℕ) (us xs : List Tree) → Body h kind n us xs → kind ≡ 3 → Many h (n + 1) n
 many-inner zero kind n us xs b is = absurd (let a = b.is in omega arith)
@@ -98,49 +115,54 @@ pub body-most : (h kind n : ℕ) (us xs : List Tree) → Body h kind n us xs →
 body-most h kind n us xs b = let a = b.spread.items in omega arith
 
 -- the greatest of all
-pub found : (v : SeatView) (h kind n : ℕ) (us xs : List Tree) (m : Meets h kind n us xs) (i best : ℕ) (x : Best v m.first m.its i)
+pub found : (v : SeatView) (h kind n : ℕ) (us xs : List Tree) (m : Meets h kind n us xs) (i best : ℕ) (x : Best v m.last m.its i)
     → Best v x.item (joined m.yss) best → Greatest v xs best
-found v h kind n us xs m i best x y = record {
-  item = y.item;
-  reached = y.reached;
-  greatest = subst (IsTop y.item) (sym m.list) (record {
-    among = ⊎_elim (λ (e : y.item ≡ x.item). weave-item y.item (m.first ∷ m.its) m.yss (⊎_elim (λ (g : x.item ≡ m.first). inl (sym (e ∙ g)))
-        (λ g. inr (subst (λ t. Among t m.its) (sym e) g)) x.origin)) (λ a. weave-below y.item (m.first ∷ m.its) m.yss m.lists_few a) y.origin;
-    most = weave-each (BoundUpTo y.item) (m.first ∷ m.its) m.yss (
-      bound-trans y.item x.item m.first y.over x.over,
-      each-map m.its (λ q g. bound-trans y.item x.item q y.over g) x.most,
-    ) y.most;
-  });
-}
+found v h kind n us xs m i best x y =
+    let all : List Tree = m.its ++ m.last ∷ [] in
+    record {
+      item = y.item;
+      reached = y.reached;
+      greatest = subst (IsTop y.item) (sym m.list) (record {
+        among = ⊎_elim (λ (e : y.item ≡ x.item). weave-item y.item all m.yss (⊎_elim
+            (λ (g : x.item ≡ m.last). subst (λ t. Among t all) (sym (e ∙ g)) (among-here m.last m.its []))
+            (λ g. among-front y.item m.its (m.last ∷ []) (subst (λ t. Among t m.its) (sym e) g)) x.origin))
+            (λ a. weave-below y.item all m.yss m.lists_few a) y.origin;
+        most = weave-each (BoundUpTo y.item) all m.yss (each-join (BoundUpTo y.item) m.its (m.last ∷ [])
+            (each-map m.its (λ q g. bound-trans y.item x.item q y.over g) x.most) (bound-trans y.item x.item m.last y.over x.over, tt)) y.most;
+      });
+    }
 
--- the items behind the first, and the children
-pub meets-items : (v : SeatView) (row h kind n first : ℕ) (us xs : List Tree) (m : Meets h kind n us xs) → OwnsNode v row kind n us → LeadsTo v row 1 first
-    → HasItems v row 2 (n - 1) first
-meets-items v row h kind n first us xs m o leads =
-    let a = subst (OwnsNode v row kind n) m.one o in (
-      kind,
-      n,
-      m.top ∷ m.first ∷ [],
-      m.its,
-      m.vs,
-      m.first,
-      a,
-      refl,
-      (let b = m.few in omega arith),
-      (let b = m.low in omega arith),
-      m.items,
-      (up-link v row kind n (m.top ∷ []) (m.its ++ m.vs) m.first 1 a refl, leads kind n (m.top ∷ []) (m.its ++ m.vs) m.first a refl, m.latch),
-    )
-
-pub meets-best : (v : SeatView) (row h kind n first item : ℕ) (us xs : List Tree) (m : Meets h kind n us xs) → OwnsNode v row kind n us
-    → LeadsTo v row 1 first → BestItem v row 2 (n - 1) first item → Best v m.first m.its item
-meets-best v row h kind n first item us xs m o leads best =
+-- the items in front of the last, and the children
+pub meets-last : (v : SeatView) (row h kind n last : ℕ) (us xs : List Tree) (m : Meets h kind n us xs) → OwnsNode v row kind n us → LeadsTo v row n last
+    → ReachesItem v m.last last
+meets-last v row h kind n last us xs m o leads =
     let a = subst (OwnsNode v row kind n) m.one o in
-    best kind n (m.top ∷ m.first ∷ []) m.its m.vs m.first a refl (let b = m.few in omega arith) m.items
-    (up-link v row kind n (m.top ∷ []) (m.its ++ m.vs) m.first 1 a refl, leads kind n (m.top ∷ []) (m.its ++ m.vs) m.first a refl, m.latch)
+    (up-link v row kind n (m.top ∷ m.its) m.vs m.last n a m.few, leads kind n (m.top ∷ m.its) m.vs m.last a m.few, m.latch)
+
+pub meets-items : (v : SeatView) (row h kind n last : ℕ) (us xs : List Tree) (m : Meets h kind n us xs) → OwnsNode v row kind n us → LeadsTo v row n last
+    → HasItems v row 1 (n - 1) last
+meets-items v row h kind n last us xs m o leads = (
+  kind,
+  n,
+  m.top ∷ [],
+  m.its,
+  m.last ∷ m.vs,
+  m.last,
+  subst (OwnsNode v row kind n) m.one o,
+  refl,
+  (let b = m.few in omega arith),
+  (let b = m.low in omega arith),
+  m.items,
+  meets-last v row h kind n last us xs m o leads,
+)
+
+pub meets-best : (v : SeatView) (row h kind n last item : ℕ) (us xs : List Tree) (m : Meets h kind n us xs) → OwnsNode v row kind n us
+    → LeadsTo v row n last → BestItem v row 1 (n - 1) last item → Best v m.last m.its item
+meets-best v row h kind n last item us xs m o leads best = best kind n (m.top ∷ []) m.its (m.last ∷ m.vs) m.last (subst (OwnsNode v row kind n) m.one o) refl
+    (let b = m.few in omega arith) m.items (meets-last v row h kind n last us xs m o leads)
 
 pub meets-children : (v : SeatView) (row h kind n count item : ℕ) (us xs : List Tree) (m : Meets h kind n us xs) → OwnsNode v row kind n us → Many h count n
-    → Best v m.first m.its item → HasChildren v row 32 count item
+    → Best v m.last m.its item → HasChildren v row 32 count item
 meets-children v row h kind n count item us xs m o many x = (
   h,
   kind,
@@ -159,7 +181,7 @@ meets-children v row h kind n count item us xs m o many x = (
 )
 
 pub meets-found : (v : SeatView) (row h kind n count item result : ℕ) (us xs : List Tree) (m : Meets h kind n us xs) → OwnsNode v row kind n us
-    → Many h count n → Best v m.first m.its item → BestBelow v row 32 count item result → Greatest v xs result
+    → Many h count n → Best v m.last m.its item → BestBelow v row 32 count item result → Greatest v xs result
 meets-found v row h kind n count item result us xs m o many x best = found v h kind n us xs m item result x
     (best h kind n m.front m.cs m.ws m.yss x.item (subst (OwnsNode v row kind n) m.three o) m.long (many-same h (length m.cs) count n m.many many) m.pairs
     x.reached)

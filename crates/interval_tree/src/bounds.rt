@@ -84,8 +84,9 @@ fn greatest(rows: &Rows, seat: &mut RowSeat, row: u32) -> u32
 {
     let n = count_of(rows, seat, row) as u32;
     let children = child_count(rows, seat, row);
-    let first = row_at(rows, seat, row, 1);
-    let item = best_item(rows, seat, row, 2, n - 1, first);
+    // Of equal bounds the last item's is kept: items often go in the order in which they came, and then it stays longest.
+    let last = row_at(rows, seat, row, n);
+    let item = best_item(rows, seat, row, 1, n - 1, last);
     best_below(rows, seat, row, 32, children, item)
 }
 
