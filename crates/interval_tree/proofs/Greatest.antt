@@ -23,7 +23,7 @@ use Rattle.interval_tree.proofs.Rows.{node-link, nowhere, there, up-link}
 use Rattle.interval_tree.specs.Held.{OwnsNode}
 use Rattle.interval_tree.specs.Nodes.{LevelKid, joined}
 use Rattle.interval_tree.specs.States.{Best, Greatest, ReachesItem}
-use Rattle.interval_tree.specs.Steps.{BestBelow, BestItem, HasChildren, HasItems, LeadsTo}
+use Rattle.interval_tree.specs.Steps.{BestBelow, BestItem, HasChildren, HasItems, LeadsTo, SingleUpTo}
 
 pub is-less : (o : Ordering) → is_lt o ≡ true → o ≡ Less
 is-less Less e = refl
@@ -78,10 +78,14 @@ best-child v b j ys zs r s x top y = record {
 abbrev pub Picks : SeatView → ℕ → ℕ → ℕ → Type 0
 Picks v one other result = (s t : Tree) → ReachesItem v s one → ReachesItem v t other → Best v s (t ∷ []) result
 
+-- the same where the other has no greater bound if it is a single key
+abbrev pub PicksItem : SeatView → ℕ → ℕ → ℕ → Type 0
+PicksItem v one other result = (s t : Tree) → ReachesItem v s one → ReachesItem v t other → SingleUpTo s t → Best v s (t ∷ []) result
+
 pub first-at : (v : SeatView) (row k n best : ℕ) → 0 < n → HasItems v row k n best
     → (kind m : ℕ) × (us vs : List Tree) × (u : Tree) × OwnsNode v row kind m (us ++ u ∷ vs) × (length us ≡ k) × (k < 64) × (0 < tree_word u)
-first-at v row k n best low (kind, m, us, [], vs, b, o, at, len, most, latches, up) = absurd (omega arith)
-first-at v row k n best low (kind, m, us, j ∷ js, vs, b, o, at, len, most, latches, up) =
+first-at v row k n best low (kind, m, us, [], vs, b, o, at, len, most, latches, up, single) = absurd (omega arith)
+first-at v row k n best low (kind, m, us, j ∷ js, vs, b, o, at, len, most, latches, up, single) =
     (kind, m, us, js ++ vs, j, o, at, omega arith, let a = latches.0.here in omega arith)
 
 item-reached : (v : SeatView) (row k kind m item : ℕ) (us vs : List Tree) (j : Tree) → LeadsTo v row k item → OwnsNode v row kind m (us ++ j ∷ vs)
@@ -90,15 +94,15 @@ item-reached v row k kind m item us vs j leads o at latch = (up-link v row kind 
 
 pub both-items : (v : SeatView) (row k n best item : ℕ) → 0 < n → LeadsTo v row k item → HasItems v row k n best
     → (s t : Tree) × ReachesItem v s best × ReachesItem v t item
-both-items v row k n best item low leads (kind, m, us, [], vs, b, o, at, len, most, latches, up) = absurd (omega arith)
-both-items v row k n best item low leads (kind, m, us, j ∷ js, vs, b, o, at, len, most, latches, up) =
+both-items v row k n best item low leads (kind, m, us, [], vs, b, o, at, len, most, latches, up, single) = absurd (omega arith)
+both-items v row k n best item low leads (kind, m, us, j ∷ js, vs, b, o, at, len, most, latches, up, single) =
     (b, j, up, item-reached v row k kind m item us (js ++ vs) j leads o at latches.0)
 
-pub items-next : (v : SeatView) (row k n best item better : ℕ) → 0 < n → LeadsTo v row k item → Picks v best item better → HasItems v row k n best
+pub items-next : (v : SeatView) (row k n best item better : ℕ) → 0 < n → LeadsTo v row k item → PicksItem v best item better → HasItems v row k n best
     → HasItems v row (k + 1) (n - 1) better
-items-next v row k n best item better low leads pick (kind, m, us, [], vs, b, o, at, len, most, latches, up) = absurd (omega arith)
-items-next v row k n best item better low leads pick (kind, m, us, j ∷ js, vs, b, o, at, len, most, latches, up) =
-    let x = pick b j up (item-reached v row k kind m item us (js ++ vs) j leads o at latches.0) in (
+items-next v row k n best item better low leads pick (kind, m, us, [], vs, b, o, at, len, most, latches, up, single) = absurd (omega arith)
+items-next v row k n best item better low leads pick (kind, m, us, j ∷ js, vs, b, o, at, len, most, latches, up, single) =
+    let x = pick b j up (item-reached v row k kind m item us (js ++ vs) j leads o at latches.0) single.0 in (
       kind,
       m,
       us ++ j ∷ [],
@@ -111,19 +115,21 @@ items-next v row k n best item better low leads pick (kind, m, us, j ∷ js, vs,
       omega arith,
       latches.1,
       x.reached,
+      each-map js (λ q g p. bound-trans x.item b q x.over (g p)) single.1,
     )
 
-pub best-items : (v : SeatView) (row k n best item better result : ℕ) → 0 < n → LeadsTo v row k item → Picks v best item better
+pub best-items : (v : SeatView) (row k n best item better result : ℕ) → 0 < n → LeadsTo v row k item → PicksItem v best item better
     → BestItem v row (k + 1) (n - 1) better result → BestItem v row k n best result
-best-items v row k n best item better result low leads pick later kind m us [] vs b o at len latches up = absurd (omega arith)
-best-items v row k n best item better result low leads pick later kind m us (j ∷ js) vs b o at len latches up =
-    let x = pick b j up (item-reached v row k kind m item us (js ++ vs) j leads o at latches.0) in
+best-items v row k n best item better result low leads pick later kind m us [] vs b o at len latches up single = absurd (omega arith)
+best-items v row k n best item better result low leads pick later kind m us (j ∷ js) vs b o at len latches up single =
+    let x = pick b j up (item-reached v row k kind m item us (js ++ vs) j leads o at latches.0) single.0 in
     best-next v b j js better result x (later kind m (us ++ j ∷ []) js vs x.item
-    (subst (OwnsNode v row kind m) (sym (append_assoc us (j ∷ []) (js ++ vs))) o) (omega (arith, length-append us (j ∷ []))) (omega arith) latches.1 x.reached)
+    (subst (OwnsNode v row kind m) (sym (append_assoc us (j ∷ []) (js ++ vs))) o) (omega (arith, length-append us (j ∷ []))) (omega arith) latches.1 x.reached
+    (each-map js (λ q g p. bound-trans x.item b q x.over (g p)) single.1))
 
 pub no-items : (v : SeatView) (row k n best : ℕ) → n ≡ 0 → BestItem v row k n best best
-no-items v row k n best empty kind m us [] vs b o at len latches up = best-none v b best up
-no-items v row k n best empty kind m us (j ∷ js) vs b o at len latches up = absurd (omega arith)
+no-items v row k n best empty kind m us [] vs b o at len latches up single = best-none v b best up
+no-items v row k n best empty kind m us (j ∷ js) vs b o at len latches up single = absurd (omega arith)
 
 -- ---- a child's first link
 pub record First (us xs : List Tree) : Type 0 where

@@ -10,6 +10,7 @@ pub mod Copying
 pub mod Moving
 mod Shifting
 pub mod Greatest
+mod Singles
 pub mod Topping
 mod Splitting
 pub mod Leading

@@ -9,17 +9,19 @@ use Rattle.row_pool.specs.SeatView.{SeatView}
 use Rattle.row_pool.specs.Trees.{Tree, nil, tree_word}
 use Rattle.row_pool.specs.declared.chain.Chain.{Chain}
 use Rattle.latch_item.specs.Items.{BoundUpTo, IsLatch}
-use Rattle.latch_item.specs.Shape.{Among, Each, IsTop, Pairs, Spread, weave}
+use Rattle.latch_item.specs.Shape.{Among, Each, IsTop, Pairs, Sorted, Spread, weave}
 use Rattle.interval_tree.proofs.Copying.{held-others}
 use Rattle.interval_tree.proofs.Frames.{others-join, owns-grows, owns-same, spends-grows, spends-join, spends-others}
 use Rattle.interval_tree.proofs.Greatest.{weave-below, weave-each, weave-item}
 use Rattle.interval_tree.proofs.Holes.{pairs-length}
 use Rattle.interval_tree.proofs.Lists.{among-front, among-here, bound-trans, each-back, each-front, each-join, each-map}
 use Rattle.interval_tree.proofs.Rows.{back-cons, named-zero, up-link}
+use Rattle.interval_tree.proofs.Singles.{singles-before}
+use Rattle.interval_tree.proofs.Weaves.{sorted-items}
 use Rattle.interval_tree.specs.Held.{OthersStand, OwnsNode, Spends}
 use Rattle.interval_tree.specs.Nodes.{Body, LevelKid, Many, joined}
 use Rattle.interval_tree.specs.States.{Best, Greatest, ReachesItem}
-use Rattle.interval_tree.specs.Steps.{BestBelow, BestItem, CanSwap, HasChildren, HasItems, LeadsTo, Swaps}
+use Rattle.interval_tree.specs.Steps.{BestBelow, BestItem, CanSwap, HasChildren, HasItems, LeadsTo, SingleUpTo, Swaps}
 
 -- the last of some items, and those in front of it
 pub record Ends (xs : List Tree) : Type 0 where
@@ -139,9 +141,12 @@ meets-last v row h kind n last us xs m o leads =
     let a = subst (OwnsNode v row kind n) m.one o in
     (up-link v row kind n (m.top ∷ m.its) m.vs m.last n a m.few, leads kind n (m.top ∷ m.its) m.vs m.last a m.few, m.latch)
 
+meets-singles : (h kind n : ℕ) (us xs : List Tree) (m : Meets h kind n us xs) → Sorted xs → Each (SingleUpTo m.last) m.its
+meets-singles h kind n us xs m sorted = singles-before m.its m.last m.latch (sorted-items (m.its ++ m.last ∷ []) m.yss (subst Sorted m.list sorted))
+
 pub meets-items : (v : SeatView) (row h kind n last : ℕ) (us xs : List Tree) (m : Meets h kind n us xs) → OwnsNode v row kind n us → LeadsTo v row n last
-    → HasItems v row 1 (n - 1) last
-meets-items v row h kind n last us xs m o leads = (
+    → Sorted xs → HasItems v row 1 (n - 1) last
+meets-items v row h kind n last us xs m o leads sorted = (
   kind,
   n,
   m.top ∷ [],
@@ -154,12 +159,14 @@ meets-items v row h kind n last us xs m o leads = (
   (let b = m.low in omega arith),
   m.items,
   meets-last v row h kind n last us xs m o leads,
+  meets-singles h kind n us xs m sorted,
 )
 
 pub meets-best : (v : SeatView) (row h kind n last item : ℕ) (us xs : List Tree) (m : Meets h kind n us xs) → OwnsNode v row kind n us
-    → LeadsTo v row n last → BestItem v row 1 (n - 1) last item → Best v m.last m.its item
-meets-best v row h kind n last item us xs m o leads best = best kind n (m.top ∷ []) m.its (m.last ∷ m.vs) m.last (subst (OwnsNode v row kind n) m.one o) refl
-    (let b = m.few in omega arith) m.items (meets-last v row h kind n last us xs m o leads)
+    → LeadsTo v row n last → Sorted xs → BestItem v row 1 (n - 1) last item → Best v m.last m.its item
+meets-best v row h kind n last item us xs m o leads sorted best =
+    best kind n (m.top ∷ []) m.its (m.last ∷ m.vs) m.last (subst (OwnsNode v row kind n) m.one o) refl
+    (let b = m.few in omega arith) m.items (meets-last v row h kind n last us xs m o leads) (meets-singles h kind n us xs m sorted)
 
 pub meets-children : (v : SeatView) (row h kind n count item : ℕ) (us xs : List Tree) (m : Meets h kind n us xs) → OwnsNode v row kind n us → Many h count n
     → Best v m.last m.its item → HasChildren v row 32 count item

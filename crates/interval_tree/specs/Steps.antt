@@ -1,6 +1,6 @@
 -- What the calls on the links of nodes need, and what they do. The newest reference of the seat, or nothing, goes into a link of an owned node, and what the
 -- link held becomes the newest reference.
-use Rattle.std.specs.Prelude.{◌≡◌, ◌≢◌, ℕ, suc, ◌+◌, ◌^◌, ◌<◌, ◌≤◌, List, ◌∷◌, ◌++◌, length, replicate}
+use Rattle.std.specs.Prelude.{◌≡◌, ◌≢◌, ℕ, suc, ◌+◌, ◌^◌, ◌<◌, ◌≤◌, IsTrue, List, ◌∷◌, ◌++◌, length, replicate}
 use mathlib.Core.Option.{none}
 use Rattle.row_pool.specs.Trees.{Tree, nil, tree_word, children, depth}
 use Rattle.row_pool.specs.SeatView.{SeatView}
@@ -8,7 +8,8 @@ use Rattle.row_pool.specs.Lists.{find}
 use Rattle.row_pool.specs.Changes.{tree_of, with_old_target}
 use Rattle.latch_item.specs.Items.{word}
 use Rattle.interval_tree.specs.Held.{OwnsNode, IsNodeRow, OthersStand}
-use Rattle.latch_item.specs.Items.{IsLatch}
+use Rattle.span_key.specs.Spans.{is_point}
+use Rattle.latch_item.specs.Items.{BoundUpTo, IsLatch, item_of}
 use Rattle.latch_item.specs.Shape.{Each, Pairs, Sorted}
 use Rattle.interval_tree.specs.Nodes.{Between, EachRow, LevelKid, joined}
 use Rattle.interval_tree.specs.States.{ReachesItem, Best}
@@ -70,15 +71,19 @@ pub record WentLive (v w : SeatView) (r kind n : ℕ) (us : List Tree) : Type 0 
 abbrev pub LeadsTo : SeatView → ℕ → ℕ → ℕ → Type 0
 LeadsTo v row k result = (kind n : ℕ) (us vs : List Tree) (u : Tree) → OwnsNode v row kind n (us ++ u ∷ vs) → length us ≡ k → tree_word u ≡ suc result
 
--- the item in the row `best`, and n links of an owned node from the place k on that lead to items
+-- if the item j is a single key, the upper bound of the item b is no less
+abbrev pub SingleUpTo : Tree → Tree → Type 0
+SingleUpTo b j = IsTrue (is_point (item_of j).span) → BoundUpTo b j
+
+-- the item in the row `best`, and n links of an owned node from the place k on that lead to items, among them no single key of a greater bound
 abbrev pub HasItems : SeatView → ℕ → ℕ → ℕ → ℕ → Type 0
 HasItems v row k n best = (kind m : ℕ) × (us js vs : List Tree) × (b : Tree) × OwnsNode v row kind m (us ++ (js ++ vs)) × (length us ≡ k) × (length js ≡ n)
-    × (k + n ≤ 64) × Each IsLatch js × ReachesItem v b best
+    × (k + n ≤ 64) × Each IsLatch js × ReachesItem v b best × Each (SingleUpTo b) js
 
 -- the greatest of them
 abbrev pub BestItem : SeatView → ℕ → ℕ → ℕ → ℕ → ℕ → Type 0
 BestItem v row k n best result = (kind m : ℕ) (us js vs : List Tree) (b : Tree) → OwnsNode v row kind m (us ++ (js ++ vs)) → length us ≡ k → length js ≡ n
-    → Each IsLatch js → ReachesItem v b best → Best v b js result
+    → Each IsLatch js → ReachesItem v b best → Each (SingleUpTo b) js → Best v b js result
 
 -- the item in the row `best`, and n links of an owned node from the place k on that lead to children
 abbrev pub HasChildren : SeatView → ℕ → ℕ → ℕ → ℕ → Type 0

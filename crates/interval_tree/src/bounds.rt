@@ -5,14 +5,14 @@ ghost use Rattle.row_pool.specs.Views.{Reaches};
 ghost use Rattle.row_pool.specs.Chains.{IsChain};
 ghost use Rattle.row_pool.specs.declared.chain.Chain.{Chain as ChainValue};
 ghost use Rattle.latch_item.specs.Items.{IsLatch};
-ghost use Rattle.latch_item.specs.Shape.{Each, Pairs, IsTop, Node};
+ghost use Rattle.latch_item.specs.Shape.{Each, Sorted, Pairs, IsTop, Node};
 ghost use Rattle.interval_tree.specs.Held.{OwnsNode, Spends, HasRoom};
 ghost use Rattle.interval_tree.specs.Nodes.{LevelKid, Many, Body, Raised, joined};
-ghost use Rattle.interval_tree.specs.Steps.{HasItems, BestItem, HasChildren, BestBelow, CanMove, MovesLinks, HasNoChildren};
+ghost use Rattle.interval_tree.specs.Steps.{SingleUpTo, HasItems, BestItem, HasChildren, BestBelow, CanMove, MovesLinks, HasNoChildren};
 ghost use Rattle.interval_tree.specs.States.{ReachesItem, Best, Greatest, CutParts, Halves};
 
 use crate::nodes::{count_of, fresh_node, kind_of, move_links, row_at, set_count, swap, top_of};
-use latch_item::bound_cmp;
+use latch_item::{bound_cmp, is_point};
 use row_pool::{Chain, RowSeat, Rows};
 
 /// The one of two items whose bound is greater.
@@ -29,6 +29,21 @@ fn greater(rows: &Rows, seat: &mut RowSeat, one: u32, other: u32) -> u32
     }
 }
 
+/// The same, where the other item is known to have no greater bound if it is a single key: bounds are compared only where it is none.
+fn greater_unless_single(rows: &Rows, seat: &mut RowSeat, one: u32, other: u32) -> u32
+    requires table { seat.old.table ≡ rows.now }
+    requires items { (s t : Tree) × ReachesItem seat.old.view s one × ReachesItem seat.old.view t other }
+    ensures same { seat.new ≡ seat.old }
+    ensures best { (s t : Tree) → ReachesItem seat.old.view s one → ReachesItem seat.old.view t other → SingleUpTo s t
+        → Best seat.old.view s (t ∷ []) result }
+{
+    if is_point(rows, seat, other) {
+        one
+    } else {
+        greater(rows, seat, one, other)
+    }
+}
+
 /// The greatest of an item and of those that n links of an owned node lead to, from the link k on.
 fn best_item(rows: &Rows, seat: &mut RowSeat, row: u32, k: u32, n: u32, best: u32) -> u32
     requires table { seat.old.table ≡ rows.now }
@@ -40,7 +55,7 @@ fn best_item(rows: &Rows, seat: &mut RowSeat, row: u32, k: u32, n: u32, best: u3
         return best;
     }
     let item = row_at(rows, seat, row, k);
-    let better = greater(rows, seat, best, item);
+    let better = greater_unless_single(rows, seat, best, item);
     best_item(rows, seat, row, k + 1, n - 1, better)
 }
 
@@ -78,13 +93,15 @@ fn child_count(rows: &Rows, seat: &mut RowSeat, row: u32) -> u32
 /// The item of the greatest bound in an owned node and below it.
 fn greatest(rows: &Rows, seat: &mut RowSeat, row: u32) -> u32
     requires table { seat.old.table ≡ rows.now }
-    requires node { (h kind n : ℕ) × (us xs : List Tree) × OwnsNode seat.old.view row kind n us × Body h kind n us xs × (1 ≤ n) }
+    requires node { (h kind n : ℕ) × (us xs : List Tree) × OwnsNode seat.old.view row kind n us × Body h kind n us xs × (1 ≤ n) × Sorted xs }
     ensures same { (seat.new.table ≡ seat.old.table) × (seat.new.view ≡ seat.old.view) }
-    ensures item { (h kind n : ℕ) (us xs : List Tree) → OwnsNode seat.old.view row kind n us → Body h kind n us xs → 1 ≤ n → Greatest seat.old.view xs result }
+    ensures item { (h kind n : ℕ) (us xs : List Tree) → OwnsNode seat.old.view row kind n us → Body h kind n us xs → 1 ≤ n → Sorted xs
+        → Greatest seat.old.view xs result }
 {
     let n = count_of(rows, seat, row) as u32;
     let children = child_count(rows, seat, row);
-    // Of equal bounds the last item's is kept: items often go in the order in which they came, and then it stays longest.
+    // A single key in front of the last item has no greater bound. Of equal bounds the last item's is kept: items often go in the order in which they came,
+    // and then it stays longest.
     let last = row_at(rows, seat, row, n);
     let item = best_item(rows, seat, row, 1, n - 1, last);
     best_below(rows, seat, row, 32, children, item)
@@ -112,11 +129,11 @@ fn replace_top(rows: &Rows, seat: &mut RowSeat, row: u32, item: u32, chain: &mut
 /// The first link of an owned node is set to the item of the greatest bound.
 pub fn set_top(rows: &Rows, seat: &mut RowSeat, row: u32, chain: &mut Chain)
     requires table { seat.old.table ≡ rows.now }
-    requires node { (h kind n : ℕ) × (us xs : List Tree) × OwnsNode seat.old.view row kind n us × Body h kind n us xs × (1 ≤ n) }
+    requires node { (h kind n : ℕ) × (us xs : List Tree) × OwnsNode seat.old.view row kind n us × Body h kind n us xs × (1 ≤ n) × Sorted xs }
     requires few { length seat.old.view.refs + 1 < 2 ^ 32 }
     requires chain { (rs : List ℕ) × IsChain seat.old.view chain.old rs }
     ensures same { (seat.new.table ≡ seat.old.table) × (seat.new.view.refs ≡ seat.old.view.refs) }
-    ensures node { (h kind n : ℕ) (us xs : List Tree) → OwnsNode seat.old.view row kind n us → Body h kind n us xs → 1 ≤ n
+    ensures node { (h kind n : ℕ) (us xs : List Tree) → OwnsNode seat.old.view row kind n us → Body h kind n us xs → 1 ≤ n → Sorted xs
         → (vs : List Tree) × OwnsNode seat.new.view row kind n vs × Node h kind n vs xs }
     ensures spends { (rs : List ℕ) → IsChain seat.old.view chain.old rs → Spends 0 (row ∷ []) (row ∷ []) rs seat.old.view seat.new.view chain.new }
 {
@@ -182,11 +199,11 @@ fn cut_node(rows: &Rows, seat: &mut RowSeat, row: u32, chain: &mut Chain) -> (u3
 /// first link of the full node may lead anywhere. The answer is the new node and the middle item.
 pub(crate) fn split_node(rows: &Rows, seat: &mut RowSeat, row: u32, chain: &mut Chain) -> (u32, u32)
     requires table { seat.old.table ≡ rows.now }
-    requires node { (h kind : ℕ) × (us xs : List Tree) × OwnsNode seat.old.view row kind 31 us × Body h kind 31 us xs }
+    requires node { (h kind : ℕ) × (us xs : List Tree) × OwnsNode seat.old.view row kind 31 us × Body h kind 31 us xs × Sorted xs }
     requires few { length seat.old.view.refs + 3 < 2 ^ 32 }
     requires room { HasRoom 1 seat.old.view chain.old }
     ensures table { seat.new.table ≡ seat.old.table }
-    ensures halves { (h kind : ℕ) (us xs : List Tree) → OwnsNode seat.old.view row kind 31 us → Body h kind 31 us xs
+    ensures halves { (h kind : ℕ) (us xs : List Tree) → OwnsNode seat.old.view row kind 31 us → Body h kind 31 us xs → Sorted xs
         → Halves h seat.new.view row result.0 result.1 kind xs seat.old.view.refs }
     ensures spends { (rs : List ℕ) → IsChain seat.old.view chain.old rs
         → Spends 1 (row ∷ []) (row ∷ result.0 ∷ []) rs seat.old.view seat.new.view chain.new }

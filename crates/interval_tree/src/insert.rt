@@ -200,11 +200,11 @@ pub(crate) fn insert_owned(
 /// A full owned root becomes two live children of a new owned root, which takes over its first link.
 pub(crate) fn grow_root(rows: &Rows, seat: &mut RowSeat, row: u32, chain: &mut Chain) -> u32
     requires table { seat.old.table ≡ rows.now }
-    requires node { (h kind : ℕ) × (us xs : List Tree) × (h ≤ 1) × OwnsNode seat.old.view row kind 31 us × Node h kind 31 us xs }
+    requires node { (h kind : ℕ) × (us xs : List Tree) × (h ≤ 1) × OwnsNode seat.old.view row kind 31 us × Node h kind 31 us xs × Sorted xs }
     requires few { length seat.old.view.refs + 3 < 2 ^ 32 }
     requires room { HasRoom 2 seat.old.view chain.old }
     ensures same { (seat.new.table ≡ seat.old.table) × (seat.new.view.refs ≡ seat.old.view.refs) }
-    ensures root { (h kind : ℕ) (us xs : List Tree) → h ≤ 1 → OwnsNode seat.old.view row kind 31 us → Node h kind 31 us xs
+    ensures root { (h kind : ℕ) (us xs : List Tree) → h ≤ 1 → OwnsNode seat.old.view row kind 31 us → Node h kind 31 us xs → Sorted xs
         → (vs : List Tree) × OwnsNode seat.new.view result 3 1 vs × Node (suc h) 3 1 vs xs }
     ensures spends { (rs : List ℕ) → IsChain seat.old.view chain.old rs
         → Spends 2 (row ∷ []) (result ∷ []) rs seat.old.view seat.new.view chain.new }

@@ -5,7 +5,7 @@ ghost use Rattle.row_pool.specs.SeatView.{SeatView};
 ghost use Rattle.row_pool.specs.Changes.{tree_of, without_tree, with_ref};
 ghost use Rattle.row_pool.specs.Chains.{IsChain};
 ghost use Rattle.latch_item.specs.Items.{Item, IsLatch, IsItemOf, word};
-ghost use Rattle.latch_item.specs.Shape.{Node, Stands, Refers, RefersTo};
+ghost use Rattle.latch_item.specs.Shape.{Node, Sorted, Stands, Refers, RefersTo};
 ghost use Rattle.interval_tree.specs.Held.{OwnsNode, Spends, HasRoom};
 ghost use Rattle.interval_tree.specs.Nodes.{Inserted};
 ghost use Rattle.interval_tree.specs.States.{RootNode, Coming, Entering, Standing};
@@ -59,11 +59,11 @@ fn roomy_root(
     chain: &mut Chain,
 ) -> (u32, u32)
     requires table { seat.old.table ≡ rows.now }
-    requires node { (xs : List Row) × RootNode level seat.old.view node xs × (level ≤ 2) × (length xs < 8190) }
+    requires node { (xs : List Row) × RootNode level seat.old.view node xs × (level ≤ 2) × (length xs < 8190) × Sorted xs }
     requires few { length seat.old.view.refs + 3 < 2 ^ 32 }
     requires room { HasRoom 2 seat.old.view chain.old }
     ensures same { (seat.new.table ≡ seat.old.table) × (seat.new.view.refs ≡ seat.old.view.refs) }
-    ensures node { (xs : List Row) → RootNode level seat.old.view node xs → level ≤ 2 → length xs < 8190
+    ensures node { (xs : List Row) → RootNode level seat.old.view node xs → level ≤ 2 → length xs < 8190 → Sorted xs
         → (root : RootNode result.1 seat.new.view result.0 xs) × (root.many < 31) }
     ensures low { result.1 ≤ 2 }
     ensures spends { (rs : List ℕ) → IsChain seat.old.view chain.old rs

@@ -9,7 +9,9 @@ mod shot;
 mod words;
 mod write;
 
-pub use order::{Side, begins_before, bound_cmp, item_cmp, item_overlaps, reaches, side_of};
+pub use order::{
+    Side, begins_before, bound_cmp, is_point, item_cmp, item_overlaps, reaches, side_of,
+};
 pub use read::{Facts, item_facts, item_span};
 pub use shot::Shot;
 pub use words::first_word;

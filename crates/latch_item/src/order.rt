@@ -132,6 +132,16 @@ pub fn reaches(rows: &Rows, seat: &mut RowSeat, a: u32, span: &Span) -> bool
     }
 }
 
+/// Whether the span of an item is a single key.
+pub fn is_point(rows: &Rows, seat: &mut RowSeat, a: u32) -> bool
+    requires table { seat.old.table ≡ rows.now }
+    requires item { (x : Item) × HasItem seat.old.view a x }
+    ensures same { seat.new ≡ seat.old }
+    ensures point { (x : Item) → HasItem seat.old.view a x → result ≡ is_single x.span }
+{
+    read_word(rows, seat, a, 8) == 0
+}
+
 // The key, or the end, of an item against a key.
 fn part_cmp(rows: &Rows, seat: &mut RowSeat, a: u32, end: bool, bytes: &[u8]) -> Ordering
     requires key { IsKey bytes.now }
@@ -251,14 +261,4 @@ fn ids_cmp(rows: &Rows, seat: &mut RowSeat, a: u32, b: u32) -> Ordering
     let place = read_word(rows, seat, a, 3);
     let other_place = read_word(rows, seat, b, 3);
     place.cmp(&other_place)
-}
-
-// Whether the span of an item is a single key.
-fn is_point(rows: &Rows, seat: &mut RowSeat, a: u32) -> bool
-    requires table { seat.old.table ≡ rows.now }
-    requires item { (x : Item) × HasItem seat.old.view a x }
-    ensures same { seat.new ≡ seat.old }
-    ensures point { (x : Item) → HasItem seat.old.view a x → result ≡ is_single x.span }
-{
-    read_word(rows, seat, a, 8) == 0
 }

@@ -5,10 +5,10 @@ use Rattle.std.proofs.lemmas.List.{length-replicate}
 use Rattle.row_pool.specs.SeatView.{SeatView}
 use Rattle.row_pool.specs.Trees.{Tree, nil}
 use Rattle.latch_item.specs.Items.{BoundUpTo, IsLatch}
-use Rattle.latch_item.specs.Shape.{Among, Each, IsTop, Node, Pairs}
+use Rattle.latch_item.specs.Shape.{Among, Each, IsTop, Node, Pairs, Sorted}
 use Rattle.interval_tree.proofs.Depths.{each-among, node-items}
 use Rattle.interval_tree.proofs.Holes.{named-items, named-kids, spare}
-use Rattle.interval_tree.proofs.Lists.{among-back, among-front, bound-self, bound-trans, each-join, each-map}
+use Rattle.interval_tree.proofs.Lists.{among-back, among-front, bound-self, bound-trans, each-join, each-map, sorted-back, sorted-front}
 use Rattle.interval_tree.specs.Held.{OwnsNode}
 use Rattle.interval_tree.specs.Listings.{Part}
 use Rattle.interval_tree.specs.Nodes.{Body, EachRow, Raised, ahead, behind, kind_at}
@@ -64,6 +64,9 @@ pub record LastOut (h kind n : ℕ) (us xs : List Tree) : Type 0 where
   pub links : us ≡ seam_links pair.seam pair.top pair.s pair.stays pair.goes
   pub list : xs ≡ pair.ls ++ pair.s ∷ pair.l
 
+pub last-sorted : {h kind n : ℕ} {us xs : List Tree} (q : LastOut h kind n us xs) → Sorted xs → Sorted q.pair.ls
+last-sorted q sorted = sorted-front q.pair.ls (q.pair.s ∷ q.pair.l) (subst Sorted q.list sorted)
+
 around-last : (qs ls l : List Tree) (s : Tree) (ys : List Tree) → qs ≡ [] → (ls ++ (l ++ s ∷ [])) ++ (ys ++ qs) ≡ (ls ++ (l ++ qs)) ++ s ∷ ys
 around-last [] ls l s ys e = simp (append_assoc, append-nil)
 around-last (q ∷ qs) ls l s ys e = cc
@@ -104,6 +107,9 @@ pub record FirstOut (h kind n : ℕ) (us xs : List Tree) : Type 0 where
   pub pair : Lends h kind n 0 us xs
   pub links : us ≡ seam_links pair.seam pair.top pair.s pair.goes pair.stays
   pub list : xs ≡ pair.l ++ pair.s ∷ pair.ls
+
+pub first-sorted : {h kind n : ℕ} {us xs : List Tree} (q : FirstOut h kind n us xs) → Sorted xs → Sorted q.pair.ls
+first-sorted q sorted = (sorted-back q.pair.l (q.pair.s ∷ q.pair.ls) (subst Sorted q.list sorted)).1
 
 around-first : (ps l : List Tree) (s : Tree) (ms : List Tree) → ps ≡ [] → ps ++ (l ++ s ∷ ms) ≡ l ++ s ∷ (ps ++ ms)
 around-first [] l s ms e = refl
@@ -172,13 +178,14 @@ raised-latch it old new r a b = ⊎_elim (λ (h : (new ≡ old) × BoundUpTo old
 
 -- what the node is once the two are out
 pub lightens : (h kind n j : ℕ) (us xs : List Tree) (q : Lends h kind n j us xs) → 2 ≤ n → (x : SeatView) (row item kid : ℕ) (R : List Tree)
-    → OwnsNode x row kind (n - 1) (cut_links q.seam q.top q.stays) → Carried h x q.s q.goes q.l item kid R → length R + 4 < 2 ^ 32
+    → OwnsNode x row kind (n - 1) (cut_links q.seam q.top q.stays) → Carried h x q.s q.goes q.l item kid R → length R + 4 < 2 ^ 32 → Sorted q.ls
     → (tail : List Tree) × Lightens h x row kind (n - 1) q.top tail q.ls q.l q.s q.goes item kid R
-lightens h kind n j us xs q two x row item kid R owns carried few = (
+lightens h kind n j us xs q two x row item kid R owns carried few sorted = (
   ((q.seam.is ++ q.seam.js) ++ replicate (suc q.seam.free) nil) ++ ((q.seam.cs ++ q.stays ∷ q.seam.ds) ++ replicate (suc q.seam.free) nil),
   record {
     owns = owns;
     body = q.body;
+    sorted = sorted;
     some_items = omega arith;
     top_fits = q.top_fits;
     most = each-all (BoundUpTo q.top) q.ls (λ y a. each-among (BoundUpTo q.top) y xs (q.inside.0 y (among-front y q.ls (q.s ∷ q.l) a)) q.greatest.most);

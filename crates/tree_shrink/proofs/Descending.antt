@@ -126,6 +126,7 @@ finishing h k w row n goes j xs ps ys qs rest o it item items room owns s = reco
   node = s.stood.whole (let b = s.least in omega arith);
   least = (let b = s.least in omega arith);
   gone = within-gone it xs ps ys s.ys qs o.list s.gone;
+  sorted = o.sorted;
   item_is = s.item_is;
 }
 
@@ -149,6 +150,7 @@ replacing h k w row n goes j xs ps ys qs rest o e it last items heads room sorte
       node = s.stood.whole (let b = s.least in omega arith);
       least = (let b = s.least in omega arith);
       list = o.list ∙ (λ i. ps ++ (whole i ++ qs));
+      sorted = sorted;
       heads = heads;
       item = e.fits;
       last_is = s.item_is;
@@ -208,6 +210,7 @@ replaced-finishing h w y row n child j xs ps zs qs it m last item rest p b owns 
   node = p.node;
   least = p.least;
   gone = b.gone;
+  sorted = p.sorted;
   item_is = sym is;
 }
 
@@ -237,13 +240,14 @@ pub opened : (h : ℕ) (w : SeatView) (row kind n child i : ℕ) (us xs R is js 
     → Node (suc h) kind n us xs → IsTop f.top xs
     → OwnsNode w row kind n (slot_front q.cut.slot f.top ++ nil ∷ slot_back q.cut.slot)
     → OwnsNode w child (word q.cut.child 1) (word q.cut.child 2) (children q.cut.child) → child ≢ row → w.refs ≡ R → length R < 2 ^ 31 + 3
-    → Open h w row n child i xs q.cut.ps q.cut.ys q.cut.qs R
-opened h w row kind n child i us xs R is js f q nd top owns owns_child apart refs few = record {
+    → Sorted xs → Open h w row n child i xs q.cut.ps q.cut.ys q.cut.qs R
+opened h w row kind n child i us xs R is js f q nd top owns owns_child apart refs few sorted = record {
   top = f.top;
   slot = q.cut.slot;
   owns = subst (λ (z : ℕ × List Tree). OwnsNode w row z.0 n z.1) (λ k. (f.is k, sym (slot-links (suc h) n f.top nil q.cut.ps q.cut.qs i q.cut.slot) k)) owns;
   greatest = top;
   list = q.cut.list;
+  sorted = sorted;
   apart = apart;
   sort = word q.cut.child 1;
   count = word q.cut.child 2;

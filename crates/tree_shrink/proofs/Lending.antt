@@ -14,7 +14,7 @@ use Rattle.row_pool.specs.Trees.{Tree, nil, tree_word}
 use Rattle.row_pool.specs.Views.{Reaches}
 use Rattle.row_pool.specs.declared.chain.Chain.{Chain}
 use Rattle.latch_item.specs.Items.{BoundUpTo, IsLatch, item_of}
-use Rattle.latch_item.specs.Shape.{Among, IsTop, Node}
+use Rattle.latch_item.specs.Shape.{Among, IsTop, Node, Sorted}
 use Rattle.interval_tree.proofs.Cutting.{node-of}
 use Rattle.interval_tree.proofs.Depths.{each-among}
 use Rattle.interval_tree.proofs.Frames.{chain-others, spends-join, spends-others}
@@ -145,11 +145,11 @@ lent-first-closed {h} {kind} {n} {v} {w} {row} q o f =
 -- the item is out too
 pub lent-cut : {h kind n j : ℕ} {v w : SeatView} {row item kid : ℕ} {us xs R : List Tree} (q : Lends h kind n j us xs) → 2 ≤ n
     → OwnsNode v row kind n (seam_links q.seam q.top q.s q.stays nil) → v.refs ≡ with_old_target q.goes R → kid ≡ tree_word q.goes → length R + 4 < 2 ^ 32
-    → Cuts v w row j n item → (tail : List Tree) × Lightens h w row kind (n - 1) q.top tail q.ls q.l q.s q.goes item kid R
-lent-cut {h} {kind} {n} {j} {v} {w} {row} {item} {kid} {us} {xs} {R} q two o refs is few f =
+    → Sorted q.ls → Cuts v w row j n item → (tail : List Tree) × Lightens h w row kind (n - 1) q.top tail q.ls q.l q.s q.goes item kid R
+lent-cut {h} {kind} {n} {j} {v} {w} {row} {item} {kid} {us} {xs} {R} q two o refs is few sorted f =
     let z = f h kind q.ps q.qs q.seam q.top q.s q.stays q.kind_is o (let a = q.fits.here in omega arith) in
     lightens h kind n j us xs q two w row item kid R z.1
-    (record { fits = q.fits; part = q.part; item_is = sym z.0; kid_is = sym is; refs = z.2 ∙ ap (λ ts. q.s ∷ ts) refs }) few
+    (record { fits = q.fits; part = q.part; item_is = sym z.0; kid_is = sym is; refs = z.2 ∙ ap (λ ts. q.s ∷ ts) refs }) few sorted
 
 pub lent-cuts : {h kind n j : ℕ} {v : SeatView} {row : ℕ} {us xs : List Tree} (R : List Tree) (q : Lends h kind n j us xs)
     → OwnsNode v row kind n (seam_links q.seam q.top q.s q.stays nil) → v.refs ≡ with_old_target q.goes R → length R + 4 < 2 ^ 32 → CanCut v row j n
@@ -224,15 +224,15 @@ pub kid-cuts : {h kind n j : ℕ} {us xs : List Tree} {v w : SeatView} {row kid 
 kid-cuts {v = v} {q = q} k few = lent-cuts v.refs q k.owns k.back (omega arith)
 
 pub kid-lightens : {h kind n j : ℕ} {us xs : List Tree} {v w x : SeatView} {row kid item : ℕ} {q : Lends h kind n j us xs}
-    → KidOut h kind n j us xs v w row kid q → 2 ≤ n → length v.refs + 5 < 2 ^ 32 → Cuts w x row j n item
+    → KidOut h kind n j us xs v w row kid q → 2 ≤ n → length v.refs + 5 < 2 ^ 32 → Sorted q.ls → Cuts w x row j n item
     → (tail : List Tree) × Lightens h x row kind (n - 1) q.top tail q.ls q.l q.s q.goes item kid v.refs
-kid-lightens {q = q} k two few f = lent-cut q two k.owns k.back k.named (omega arith) f
+kid-lightens {q = q} k two few sorted f = lent-cut q two k.owns k.back k.named (omega arith) sorted f
 
 pub kid-lent : {h kind n j m : ℕ} {us xs : List Tree} {v w x y : SeatView} {row kid item : ℕ} {q : Lends h kind n j us xs}
-    → KidOut h kind n j us xs v w row kid q → n ≡ m → 2 ≤ n → length v.refs + 5 < 2 ^ 32 → Cuts w x row j n item → LowersBoth x y row item kid
+    → KidOut h kind n j us xs v w row kid q → n ≡ m → 2 ≤ n → length v.refs + 5 < 2 ^ 32 → Sorted q.ls → Cuts w x row j n item → LowersBoth x y row item kid
     → y.refs ≡ x.refs → Lent h y row kind (m - 1) q.ls q.l q.s item kid v.refs
-kid-lent {h} {kind} {n} {j} {m} {us} {xs} {v} {w} {x} {y} {row} {kid} {item} {q} k e two few f g same =
-    let (tail, o) = kid-lightens k two few f in
+kid-lent {h} {kind} {n} {j} {m} {us} {xs} {v} {w} {x} {y} {row} {kid} {item} {q} k e two few sorted f g same =
+    let (tail, o) = kid-lightens k two few sorted f in
     let (vs, owns, whole) = g h kind (n - 1) q.top tail q.ls q.l q.s q.goes v.refs o in
     subst (λ z. Lent h y row kind (z - 1) q.ls q.l q.s item kid v.refs) e
     (record { us = vs; u = q.goes; owns = owns; whole = whole; carried = carried-over same o.carried })

@@ -7,8 +7,9 @@ use Rattle.row_pool.specs.SeatView.{SeatView}
 use Rattle.row_pool.specs.Trees.{Tree, children, nil, tree_word}
 use Rattle.row_pool.specs.declared.chain.Chain.{Chain}
 use Rattle.latch_item.specs.Items.{IsLatch, word}
-use Rattle.latch_item.specs.Shape.{Kid, Node}
+use Rattle.latch_item.specs.Shape.{Kid, Node, Sorted}
 use Rattle.interval_tree.proofs.Linking.{kid-row-of, shallow}
+use Rattle.interval_tree.proofs.Lists.{sorted-back, sorted-front}
 use Rattle.interval_tree.proofs.Rows.{back-cons}
 use Rattle.interval_tree.specs.Held.{OthersStand, OwnsNode, Spends}
 use Rattle.interval_tree.specs.Listings.{Part}
@@ -59,6 +60,7 @@ roomy h v w row n child j xs ps ys qs rest o m goes k ps2 ys2 qs2 front back slo
         owns = owns;
         greatest = o.greatest;
         list = all-stays xs ps ys qs ps2 ys2 qs2 front back o.list before wider behind;
+        sorted = o.sorted;
         apart = apart;
         sort = sort;
         count = count;
@@ -237,6 +239,18 @@ left-links {h} {n} {j} {b} {v} {row} {child} {xs} {ps} {ys} {qs} {R} o l = l.lin
 pub right-links : {h n j : ℕ} {v : SeatView} {row child : ℕ} {xs ps ys qs R : List Tree} (o : Open h v row n child j xs ps ys qs R)
     → (r : Rightward (suc h) n ps qs j o.slot) → slot_links o.slot o.top nil ≡ (kid_front r.seam o.top r.s ++ nil ∷ []) ++ r.kid ∷ kid_back r.seam
 right-links {h} {n} {j} {v} {row} {child} {xs} {ps} {ys} {qs} {R} o r = r.links o.top nil ∙ seam-next (suc h) n o.top r.s nil r.kid ps r.rs j r.seam
+
+-- the neighbour's list is sorted
+pub left-sorted : {h n j b : ℕ} {v : SeatView} {row child : ℕ} {xs ps ys qs R : List Tree} (o : Open h v row n child j xs ps ys qs R)
+    → (l : Leftward (suc h) n ps qs j b o.slot) → Sorted l.l
+left-sorted {ps = ps} {ys = ys} {qs = qs} o l = sorted-front l.l (l.s ∷ [])
+    (sorted-back l.ls (l.l ++ l.s ∷ []) (subst Sorted l.list (sorted-front ps (ys ++ qs) (subst Sorted o.list o.sorted))))
+
+pub right-sorted : {h n j : ℕ} {v : SeatView} {row child : ℕ} {xs ps ys qs R : List Tree} (o : Open h v row n child j xs ps ys qs R)
+    → (r : Rightward (suc h) n ps qs j o.slot) → Sorted r.l
+right-sorted {ps = ps} {ys = ys} {qs = qs} o r =
+    let tail : Sorted (r.s ∷ (r.l ++ r.rs)) = subst Sorted r.list (sorted-back ys qs (sorted-back ps (ys ++ qs) (subst Sorted o.list o.sorted))) in
+    sorted-front r.l r.rs tail.1
 
 -- what the neighbour lent: its list l is `whole` of what it keeps, the item, and what went with it
 pub record LentFrom (h : ℕ) (w : SeatView) (sib ks kn : ℕ) (l : List Tree) (item kid : ℕ) (R : List Tree) (whole : List Tree → Tree → List Tree → List Tree)

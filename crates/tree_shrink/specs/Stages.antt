@@ -49,6 +49,7 @@ pub record Gains (h : ℕ) (v : SeatView) (node kind : ℕ) (us xs l : List Tree
 pub record Lightens (h : ℕ) (v : SeatView) (node kind n : ℕ) (top : Tree) (us ls l : List Tree) (m u : Tree) (item kid : ℕ) (rest : List Tree) : Type 0 where
   pub owns : OwnsNode v node kind n (top ∷ us)
   pub body : Body h kind n (top ∷ us) ls
+  pub sorted : Sorted ls
   pub some_items : 1 ≤ n
   pub top_fits : IsLatch top
   pub most : Each (λ y. BoundUpTo top y) ls
@@ -83,6 +84,7 @@ pub record Open (h : ℕ) (v : SeatView) (row n child j : ℕ) (xs ps ys qs rest
   pub owns : OwnsNode v row 3 n (slot_links slot top nil)
   pub greatest : IsTop top xs
   pub list : xs ≡ ps ++ (ys ++ qs)
+  pub sorted : Sorted xs
   pub apart : child ≢ row
   pub sort : ℕ
   pub count : ℕ
@@ -188,6 +190,7 @@ pub record Lowers (h : ℕ) (v : SeatView) (row kind n : ℕ) (xs ys : List Tree
   pub tail : List Tree
   pub owns : OwnsNode v row kind n (top ∷ tail)
   pub body : Body h kind n (top ∷ tail) ys
+  pub sorted : Sorted ys
   pub greatest : IsTop top xs
   pub fits : IsLatch top
   pub gone : Removed it xs ys
@@ -208,6 +211,7 @@ pub record Finishing (h : ℕ) (v : SeatView) (row n child j : ℕ) (xs ps zs qs
   pub node : Node h sort count below zs
   pub least : 15 ≤ count
   pub gone : Removed it xs (ps ++ (zs ++ qs))
+  pub sorted : Sorted xs
   pub item_is : tree_word it ≡ item
 
 -- The node is open at a child whose list is zs. The child's last item m is out, and is to take the place of the item behind the child
@@ -225,6 +229,7 @@ pub record Replacing (h : ℕ) (v : SeatView) (row n child j : ℕ) (xs ps zs qs
   pub node : Node h sort count below zs
   pub least : 15 ≤ count
   pub list : xs ≡ ps ++ ((zs ++ m ∷ []) ++ qs)
+  pub sorted : Sorted xs
   pub heads : Heads it qs
   pub item : IsLatch m
   pub last_is : tree_word m ≡ last

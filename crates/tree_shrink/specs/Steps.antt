@@ -6,7 +6,7 @@ use Rattle.row_pool.specs.SeatView.{SeatView}
 use Rattle.row_pool.specs.Trees.{Tree, children, nil, tree_word}
 use Rattle.row_pool.specs.declared.chain.Chain.{Chain}
 use Rattle.latch_item.specs.Items.{IsLatch, word}
-use Rattle.latch_item.specs.Shape.{IsTop, Kid, Node, Pairs}
+use Rattle.latch_item.specs.Shape.{IsTop, Kid, Node, Pairs, Sorted}
 use Rattle.interval_tree.specs.Held.{OwnsNode, Spends}
 use Rattle.interval_tree.specs.Listings.{Part}
 use Rattle.interval_tree.specs.Nodes.{Raised, kind_at}
@@ -72,14 +72,15 @@ ClosesChildren v w row i n = (h kind : ℕ) (us ds : List Tree) (zss : List (Lis
 -- an owned node of at least two items can lend one of them with the child beside it
 abbrev pub CanLend : SeatView → ℕ → Type 0
 CanLend v row = (h kind n : ℕ) × (us xs : List Tree) × OwnsNode v row kind n us × Node h kind n us xs × (2 ≤ n) × (length v.refs + 5 < 2 ^ 32)
+    × Sorted xs
 
 -- the last item and the child behind it, or the first item and the child in front of it
 abbrev pub LendsLast : SeatView → SeatView → ℕ → ℕ × ℕ → Type 0
-LendsLast v w row result = (h kind n : ℕ) (us xs : List Tree) → OwnsNode v row kind n us → Node h kind n us xs → 2 ≤ n
+LendsLast v w row result = (h kind n : ℕ) (us xs : List Tree) → OwnsNode v row kind n us → Node h kind n us xs → 2 ≤ n → Sorted xs
     → (ls l : List Tree) × (m : Tree) × (xs ≡ ls ++ m ∷ l) × Lent h w row kind (n - 1) ls l m result.0 result.1 v.refs
 
 abbrev pub LendsFirst : SeatView → SeatView → ℕ → ℕ × ℕ → Type 0
-LendsFirst v w row result = (h kind n : ℕ) (us xs : List Tree) → OwnsNode v row kind n us → Node h kind n us xs → 2 ≤ n
+LendsFirst v w row result = (h kind n : ℕ) (us xs : List Tree) → OwnsNode v row kind n us → Node h kind n us xs → 2 ≤ n → Sorted xs
     → (ls l : List Tree) × (m : Tree) × (xs ≡ l ++ m ∷ ls) × Lent h w row kind (n - 1) ls l m result.0 result.1 v.refs
 
 -- the seat's newest references are to an item and to the child beside it, which an owned node of 15 items can get

@@ -2,7 +2,7 @@
 ghost use Rattle.std.specs.Prelude.{◌≡◌, ◌≢◌, ℕ, suc, ◌+◌, ◌*◌, ◌<◌, ◌≤◌, ◌^◌, List, [], ◌∷◌, ◌++◌, length, Option, IsTrue, IsFalse};
 ghost use Rattle.row_pool.specs.Trees.{Tree};
 ghost use Rattle.row_pool.specs.Chains.{IsChain};
-ghost use Rattle.latch_item.specs.Shape.{Node};
+ghost use Rattle.latch_item.specs.Shape.{Node, Sorted};
 ghost use Rattle.interval_tree.specs.Held.{OwnsNode, HasRoom};
 ghost use Rattle.tree_shrink.specs.Slots.{Flat};
 ghost use Rattle.tree_shrink.specs.Stages.{Open, Heads, Aim, Target, Way, Aimed, Entered, Stood, Shrunk, Lowers, Finishing, Replacing, Replaced};
@@ -36,12 +36,12 @@ fn lower_top(rows: &Rows, seat: &mut RowSeat, row: u32, item: u64, chain: &mut C
 fn remove_in_leaf(rows: &Rows, seat: &mut RowSeat, row: u32, i: u32, chain: &mut Chain) -> u64
     requires table { seat.old.table ≡ rows.now }
     requires leaf { (kind n : ℕ) × (us is js : List Tree) × (it : Tree) × OwnsNode seat.old.view row kind n us × Node 0 kind n us (is ++ it ∷ js)
-        × (length is ≡ i) × (2 ≤ n) }
+        × (length is ≡ i) × (2 ≤ n) × Sorted (is ++ it ∷ js) }
     requires few { length seat.old.view.refs + 4 < 2 ^ 32 }
     requires chain { (rs : List ℕ) × IsChain seat.old.view chain.old rs }
     ensures table { seat.new.table ≡ seat.old.table }
     ensures shrunk { (kind n : ℕ) (us is js : List Tree) (it : Tree) → OwnsNode seat.old.view row kind n us → Node 0 kind n us (is ++ it ∷ js) → length is ≡ i
-        → 2 ≤ n → Shrunk 0 seat.new.view row kind n (is ++ it ∷ js) it result seat.old.view.refs }
+        → 2 ≤ n → Sorted (is ++ it ∷ js) → Shrunk 0 seat.new.view row kind n (is ++ it ∷ js) it result seat.old.view.refs }
     ensures spends { SpendsAll 0 (row ∷ []) (row ∷ []) seat.old.view seat.new.view chain.old chain.new }
 {
     let n = count_of(rows, seat, row) as u32;

@@ -10,9 +10,9 @@ use Rattle.interval_tree.proofs.bounds.set_top.Goals as goal
 
 pub replace_top-requires-clause-node : goal.replace_top-requires-clause-node
 replace_top-requires-clause-node c =
-    let (h, kind, n, us, xs, o, b, some_items) = c.requires.node in
+    let (h, kind, n, us, xs, o, b, some_items, sorted) = c.requires.node in
     let m = meets h kind n us xs b some_items in
-    let g = c.greatest-item.ensures.item h kind n us xs o b some_items in
+    let g = c.greatest-item.ensures.item h kind n us xs o b some_items sorted in
     let same = sym c.greatest-item.ensures.same.1 in (
       kind,
       n,
@@ -38,9 +38,9 @@ returns-clause-same c = (
 )
 
 pub returns-clause-node : goal.returns-clause-node
-returns-clause-node c = λ h kind n us xs o b some_items.
+returns-clause-node c = λ h kind n us xs o b some_items sorted.
     let m = meets h kind n us xs b some_items in
-    let g = c.greatest-item.ensures.item h kind n us xs o b some_items in
+    let g = c.greatest-item.ensures.item h kind n us xs o b some_items sorted in
     let same = sym c.greatest-item.ensures.same.1 in (
       g.item ∷ m.tail,
       c.replace_top.ensures.node kind n m.top m.tail g.item

@@ -3,7 +3,7 @@ use Rattle.row_pool.specs.Trees.{Tree, nil}
 use Rattle.row_pool.specs.SeatView.{SeatView}
 use Rattle.row_pool.specs.Chains.{IsChain}
 use Rattle.row_pool.specs.declared.chain.Chain.{Chain}
-use Rattle.latch_item.specs.Shape.{Kid, Node, IsTop}
+use Rattle.latch_item.specs.Shape.{Kid, Node, IsTop, Sorted}
 use Rattle.interval_tree.specs.Held.{OwnsNode, Spends}
 use Rattle.interval_tree.specs.Nodes.{Body}
 use Rattle.interval_tree.specs.States.{Halves}
@@ -37,7 +37,7 @@ old-kept c kind us o =
 
 pub move_links-requires-clause-links : goal.move_links-requires-clause-links
 move_links-requires-clause-links c =
-    let (h, kind, us, xs, low, o, n) = c.requires.node in
+    let (h, kind, us, xs, low, o, n, sorted) = c.requires.node in
     let k = old-kept (goal.at.move_links-requires-clause-links c).After-fresh_node-over kind us o in
     let t = node-top h kind 31 us xs n in (
       kind,
@@ -93,8 +93,8 @@ until-moved c rs g =
 
 pub split_node-right-requires-clause-node : goal.split_node-right-requires-clause-node
 split_node-right-requires-clause-node c =
-    let (h, kind, us, xs, low, o, n) = c.requires.node in
-    let b = begun (goal.at.split_node-right-requires-clause-node c).After-move_links h kind us xs o n in (h, kind, nil ∷ b.tail, xs, b.owns, b.body)
+    let (h, kind, us, xs, low, o, n, sorted) = c.requires.node in
+    let b = begun (goal.at.split_node-right-requires-clause-node c).After-move_links h kind us xs o n in (h, kind, nil ∷ b.tail, xs, b.owns, b.body, sorted)
 
 pub split_node-right-requires-clause-few : goal.split_node-right-requires-clause-few
 split_node-right-requires-clause-few c =
@@ -115,14 +115,14 @@ pub record Parted (h : ℕ) (s : SeatView) (row over right middle kind : ℕ) (t
   pub rows : List ℕ
   pub chain : IsChain s c rows
 
-parted : (c : After-split_node-right) → (h kind : ℕ) (xs : List Tree)
+parted : (c : After-split_node-right) → (h kind : ℕ) (xs : List Tree) → Sorted xs
     → Begun h c.fresh_node-over.new.seat.view c.move_links.new.seat.view c.args.row c.fresh_node-over.result kind xs
     → ((rs : List ℕ) → IsChain c.args.seat.now.view c.args.chain.now rs
     → Spends 1 (c.args.row ∷ []) (c.args.row ∷ c.fresh_node-over.result ∷ []) rs c.args.seat.now.view c.move_links.new.seat.view c.fresh_node-over.new.chain)
     → (top : Tree) × Parted h c.split_node-right.new.seat.view c.args.row c.fresh_node-over.result c.split_node-right.result.0 c.split_node-right.result.1 kind
     top
     xs c.args.seat.now.view.refs c.split_node-right.new.chain
-parted c h kind xs b moved =
+parted c h kind xs sorted b moved =
     let row = c.args.row in let over = c.fresh_node-over.result in let right = c.split_node-right.result.0 in
     let a = c.move_links.new.seat.view in let s = c.split_node-right.new.seat.view in
     let (rs, g, many) = c.requires.room in
@@ -135,7 +135,7 @@ parted c h kind xs b moved =
       b.top,
       record {
         halves = subst (λ ts. Halves h s row right c.split_node-right.result.1 kind xs ts) (c.move_links.ensures.same.1 ∙ c.fresh_node-over.ensures.same.1)
-            (c.split_node-right.ensures.halves h kind (nil ∷ b.tail) xs b.owns b.body);
+            (c.split_node-right.ensures.halves h kind (nil ∷ b.tail) xs b.owns b.body sorted);
         greatest = b.greatest;
         new = k.owns;
         row_apart = ne.0;
@@ -147,9 +147,9 @@ parted c h kind xs b moved =
 
 pub swap-requires-clause-link : goal.swap-requires-clause-link
 swap-requires-clause-link c =
-    let (h, kind, us, xs, low, o, n) = c.requires.node in
+    let (h, kind, us, xs, low, o, n, sorted) = c.requires.node in
     let m = (goal.at.swap-requires-clause-link c).After-move_links in
-    let (top, p) = parted (goal.at.swap-requires-clause-link c).After-split_node-right h kind xs (begun m h kind us xs o n) (until-moved m) in (
+    let (top, p) = parted (goal.at.swap-requires-clause-link c).After-split_node-right h kind xs sorted (begun m h kind us xs o n) (until-moved m) in (
       3,
       1,
       top ∷ [],
@@ -195,9 +195,9 @@ middled c h kind xs top p =
 
 pub link_node-requires-clause-link : goal.link_node-requires-clause-link
 link_node-requires-clause-link c =
-    let (h, kind, us, xs, low, o, n) = c.requires.node in
+    let (h, kind, us, xs, low, o, n, sorted) = c.requires.node in
     let m = (goal.at.link_node-requires-clause-link c).After-move_links in
-    let (top, p) = parted (goal.at.link_node-requires-clause-link c).After-split_node-right h kind xs (begun m h kind us xs o n) (until-moved m) in
+    let (top, p) = parted (goal.at.link_node-requires-clause-link c).After-split_node-right h kind xs sorted (begun m h kind us xs o n) (until-moved m) in
     let q = middled (goal.at.link_node-requires-clause-link c).After-swap h kind xs top p in (
       3,
       1,
@@ -245,9 +245,9 @@ halfway c h kind xs top p q =
 
 pub link_node-requires-2-clause-link : goal.link_node-requires-2-clause-link
 link_node-requires-2-clause-link c =
-    let (h, kind, us, xs, low, o, n) = c.requires.node in
+    let (h, kind, us, xs, low, o, n, sorted) = c.requires.node in
     let m = (goal.at.link_node-requires-2-clause-link c).After-move_links in
-    let (top, p) = parted (goal.at.link_node-requires-2-clause-link c).After-split_node-right h kind xs (begun m h kind us xs o n) (until-moved m) in
+    let (top, p) = parted (goal.at.link_node-requires-2-clause-link c).After-split_node-right h kind xs sorted (begun m h kind us xs o n) (until-moved m) in
     let q = middled (goal.at.link_node-requires-2-clause-link c).After-swap h kind xs top p in
     let e = halfway (goal.at.link_node-requires-2-clause-link c).After-link_node h kind xs top p q in (
       3,
@@ -268,9 +268,9 @@ link_node-requires-2-clause-link c =
 
 pub returns-clause-same : goal.returns-clause-same
 returns-clause-same c =
-    let (h, kind, us, xs, low, o, n) = c.requires.node in
+    let (h, kind, us, xs, low, o, n, sorted) = c.requires.node in
     let m = (goal.at.returns-clause-same c).After-move_links in
-    let (top, p) = parted (goal.at.returns-clause-same c).After-split_node-right h kind xs (begun m h kind us xs o n) (until-moved m) in
+    let (top, p) = parted (goal.at.returns-clause-same c).After-split_node-right h kind xs sorted (begun m h kind us xs o n) (until-moved m) in
     let q = middled (goal.at.returns-clause-same c).After-swap h kind xs top p in
     let e = halfway (goal.at.returns-clause-same c).After-link_node h kind xs top p q in (
       c.link_node-2.ensures.table ∙ c.link_node.ensures.table ∙ c.swap.ensures.table ∙ c.split_node-right.ensures.table ∙ c.move_links.ensures.same.0
@@ -280,9 +280,9 @@ returns-clause-same c =
     )
 
 pub returns-clause-root : goal.returns-clause-root
-returns-clause-root c = λ h kind us xs low o n.
+returns-clause-root c = λ h kind us xs low o n sorted.
     let m = (goal.at.returns-clause-root c).After-move_links in
-    let (top, p) = parted (goal.at.returns-clause-root c).After-split_node-right h kind xs (begun m h kind us xs o n) (until-moved m) in
+    let (top, p) = parted (goal.at.returns-clause-root c).After-split_node-right h kind xs sorted (begun m h kind us xs o n) (until-moved m) in
     let q = middled (goal.at.returns-clause-root c).After-swap h kind xs top p in
     let e = halfway (goal.at.returns-clause-root c).After-link_node h kind xs top p q in let g = p.halves in
     let z = c.link_node-2.ensures.linked 3 1 ((top ∷ g.m ∷ replicate 30 nil) ++ e.tree ∷ []) (replicate 30 nil) kind 15 g.vs e.new refl e.right_owns
@@ -295,9 +295,9 @@ returns-clause-root c = λ h kind us xs low o n.
 
 pub returns-clause-spends : goal.returns-clause-spends
 returns-clause-spends c = λ rs chain_is.
-    let (h, kind, us, xs, low, o, n) = c.requires.node in
+    let (h, kind, us, xs, low, o, n, sorted) = c.requires.node in
     let m = (goal.at.returns-clause-spends c).After-move_links in
-    let (top, p) = parted (goal.at.returns-clause-spends c).After-split_node-right h kind xs (begun m h kind us xs o n) (until-moved m) in
+    let (top, p) = parted (goal.at.returns-clause-spends c).After-split_node-right h kind xs sorted (begun m h kind us xs o n) (until-moved m) in
     let row = c.args.row in let over = c.fresh_node-over.result in let right = c.split_node-right.result.0 in
     let v = c.args.seat.now.view in let a = c.move_links.new.seat.view in let s = c.split_node-right.new.seat.view in
     let b = c.swap.new.seat.view in let d = c.link_node.new.seat.view in let w = c.link_node-2.new.seat.view in

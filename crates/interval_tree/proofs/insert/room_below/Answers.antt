@@ -33,7 +33,7 @@ split_node-right-requires-clause-node c =
     let v = c.args.seat.now.view in
     let z = child-body h v c.args.row kind n top c.args.child c.args.i c.args.item xs it rest o
     (full (goal.at.split_node-right-requires-clause-node c).After-count_of-count c.if-count-lt31.false h kind n top xs it rest o) in
-    (h, o.sort, o.below, o.ys, subst (λ (s : SeatState). OwnsNode s.view c.args.child o.sort 31 o.below) (sym c.count_of-count.ensures.same) z.0, z.1)
+    (h, o.sort, o.below, o.ys, subst (λ (s : SeatState). OwnsNode s.view c.args.child o.sort 31 o.below) (sym c.count_of-count.ensures.same) z.0, z.1, o.sorted)
 
 pub split_node-right-requires-clause-few : goal.split_node-right-requires-clause-few
 split_node-right-requires-clause-few c =
@@ -71,7 +71,7 @@ split c many h kind n top xs it rest o =
     (c.count_of-count.ensures.count o.sort o.count o.below o.owns_child) many in
     let z = child-body h v row kind n top c.args.child c.args.i c.args.item xs it rest o all in
     let halves = c.split_node-right.ensures.halves h o.sort o.below o.ys
-    (subst (λ (s : SeatState). OwnsNode s.view c.args.child o.sort 31 o.below) (sym c.count_of-count.ensures.same) z.0) z.1 in
+    (subst (λ (s : SeatState). OwnsNode s.view c.args.child o.sort 31 o.below) (sym c.count_of-count.ensures.same) z.0) z.1 o.sorted in
     let (rs, g, some_rows) = c.requires.room in
     let k = owns-kept 1 (c.args.child ∷ []) (c.args.child ∷ c.split_node-right.result.0 ∷ []) rs v s c.args.chain.now c.split_node-right.new.chain row kind n
     (top ∷ o.us) g (chained c rs g) o.owns (away-one row c.args.child (λ e. o.apart (sym e))) in

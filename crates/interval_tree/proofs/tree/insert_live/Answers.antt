@@ -31,7 +31,7 @@ owned c xs it rest p = owned-root c.args.level c.args.seat.now.view c.own_node-n
 pub roomy_root-top-requires-clause-node : goal.roomy_root-top-requires-clause-node
 roomy_root-top-requires-clause-node c =
     let (xs, it, rest, p) = c.requires.tree in
-    (xs, owned (goal.at.roomy_root-top-requires-clause-node c).After-own_node-node xs it rest p, p.low, p.many)
+    (xs, owned (goal.at.roomy_root-top-requires-clause-node c).After-own_node-node xs it rest p, p.low, p.many, p.sorted)
 
 pub roomy_root-top-requires-clause-few : goal.roomy_root-top-requires-clause-few
 roomy_root-top-requires-clause-few c =
@@ -54,7 +54,7 @@ rooted : (c : After-roomy_root-top) → (xs : List Tree) (it : Tree) (rest : Lis
     → Rooted c.roomy_root-top.result.1 c.roomy_root-top.new.seat.view c.roomy_root-top.result.0 c.args.item xs it (without_tree c.args.root rest)
 rooted c xs it rest p =
     let (root, low) = c.roomy_root-top.ensures.node xs (owned-root c.args.level c.args.seat.now.view c.own_node-node.new.seat.view c.args.root c.args.item
-    c.own_node-node.result xs it rest p c.own_node-node.ensures.node) p.low p.many in
+    c.own_node-node.result xs it rest p c.own_node-node.ensures.node) p.low p.many p.sorted in
     record {
       root = root;
       ready = root-ready c.args.level c.roomy_root-top.result.1 c.args.seat.now.view c.roomy_root-top.new.seat.view c.args.root c.args.item

@@ -12,7 +12,7 @@ use Rattle.interval_tree.proofs.tree.roomy_root.Goals as goal
 use Rattle.interval_tree.proofs.tree.roomy_root.Goals.{After-count_of-count}
 
 pub count_of-count-requires-clause-node : goal.count_of-count-requires-clause-node
-count_of-count-requires-clause-node c = let (xs, r, low, few) = c.requires.node in (r.kind, r.many, r.us, r.owns)
+count_of-count-requires-clause-node c = let (xs, r, low, few, sorted) = c.requires.node in (r.kind, r.many, r.us, r.owns)
 
 -- the root is full
 pub record Full (level : ℕ) (v : SeatState) (node kind : ℕ) (us xs : List Tree) : Type 0 where
@@ -35,12 +35,12 @@ full c many xs r low few =
 
 pub grow_root-over-requires-clause-node : goal.grow_root-over-requires-clause-node
 grow_root-over-requires-clause-node c =
-    let (xs, r, low, few) = c.requires.node in
+    let (xs, r, low, few, sorted) = c.requires.node in
     let f = full (goal.at.grow_root-over-requires-clause-node c).After-count_of-count c.if-count-lt31.false xs r low few in
-    (c.args.level, r.kind, r.us, xs, f.low, f.owns, f.is_node)
+    (c.args.level, r.kind, r.us, xs, f.low, f.owns, f.is_node, sorted)
 
 pub returns-then-count-lt31-clause-node : goal.returns-then-count-lt31-clause-node
-returns-then-count-lt31-clause-node c = λ xs r low few. (
+returns-then-count-lt31-clause-node c = λ xs r low few sorted. (
   record {
     kind = r.kind;
     many = r.many;
@@ -53,7 +53,7 @@ returns-then-count-lt31-clause-node c = λ xs r low few. (
 )
 
 pub returns-then-count-lt31-clause-low : goal.returns-then-count-lt31-clause-low
-returns-then-count-lt31-clause-low c = let (xs, r, low, few) = c.requires.node in low
+returns-then-count-lt31-clause-low c = let (xs, r, low, few, sorted) = c.requires.node in low
 
 pub returns-then-count-lt31-clause-spends : goal.returns-then-count-lt31-clause-spends
 returns-then-count-lt31-clause-spends c = λ rs h.
@@ -63,15 +63,15 @@ returns-then-count-lt31-clause-spends c = λ rs h.
     (spends-self (c.args.node ∷ []) rs c.args.seat.now.view c.args.chain.now h))
 
 pub returns-clause-node : goal.returns-clause-node
-returns-clause-node c = λ xs r low few.
+returns-clause-node c = λ xs r low few sorted.
     let f = full (goal.at.returns-clause-node c).After-count_of-count c.if-count-lt31.false xs r low few in
-    let (vs, o, n) = c.grow_root-over.ensures.root c.args.level r.kind r.us xs f.low f.owns f.is_node in
+    let (vs, o, n) = c.grow_root-over.ensures.root c.args.level r.kind r.us xs f.low f.owns f.is_node sorted in
     let e : c.args.level + 1 ≡ suc c.args.level = omega arith in
     (record { kind = 3; many = 1; us = vs; owns = o; node = subst (λ h. Node h 3 1 vs xs) (sym e) n; some_items = omega arith }, omega arith)
 
 pub returns-clause-low : goal.returns-clause-low
 returns-clause-low c =
-    let (xs, r, low, few) = c.requires.node in
+    let (xs, r, low, few, sorted) = c.requires.node in
     let f = full (goal.at.returns-clause-low c).After-count_of-count c.if-count-lt31.false xs r low few in let a = f.low in omega arith
 
 pub returns-clause-spends : goal.returns-clause-spends

@@ -47,6 +47,7 @@ remove_in_leaf-requires-clause-leaf t c =
       leaf-node c.args.height kind n us xs is js it z e a.node,
       at,
       a.leaf z,
+      subst Sorted e a.sorted,
     )
 
 pub remove_in_leaf-requires-clause-few : goal.remove_in_leaf-requires-clause-few
@@ -63,7 +64,7 @@ returns-then-height-eq0-clause-shrunk t c = λ kind n us xs it R a.
     let z = c.if-height-eq0.true in
     let (is, js, e, at) = placed-leaf t (goal.at.returns-then-height-eq0-clause-shrunk t c).After-way-i z kind n us xs it R a in
     let s = c.remove_in_leaf.ensures.shrunk kind n us is js it (subst (λ v. OwnsNode v c.args.row kind n us) (sym c.way-i.ensures.same.1) a.owns)
-    (leaf-node c.args.height kind n us xs is js it z e a.node) at (a.leaf z) in
+    (leaf-node c.args.height kind n us xs is js it z e a.node) at (a.leaf z) (subst Sorted e a.sorted) in
     subst (λ (w : ℕ × (List Tree × List Tree)). Shrunk w.0 c.remove_in_leaf.new.seat.view c.args.row kind n w.1.0 it c.remove_in_leaf.result w.1.1)
     (λ i. (sym z i, (sym e i, (ap (λ (v : SeatView). v.refs) c.way-i.ensures.same.1 ∙ a.refs) i))) s
 

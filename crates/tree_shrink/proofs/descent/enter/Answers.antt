@@ -77,7 +77,7 @@ out c h kind n us xs it R up a g =
     (subst (OwnsNode c.args.seat.now.view c.args.row kind n) q.links a.owns)) q.place q.kid in
     opened h c.take_child-child.new.seat.view c.args.row kind n c.take_child-child.result c.way-i.result us xs R g.is g.js g.f q (raised up a).node g.top o
     oc ne
-    (c.take_child-child.ensures.same.1 ∙ ap (λ (v : SeatView). v.refs) c.way-i.ensures.same.1 ∙ a.refs) a.few
+    (c.take_child-child.ensures.same.1 ∙ ap (λ (v : SeatView). v.refs) c.way-i.ensures.same.1 ∙ a.refs) a.few a.sorted
 
 pub roomy_below-requires-clause-state : goal.roomy_below-requires-clause-state
 roomy_below-requires-clause-state c =

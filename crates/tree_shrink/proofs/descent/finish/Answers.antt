@@ -3,6 +3,7 @@ use Rattle.row_pool.specs.Trees.{Tree, nil}
 use Rattle.interval_tree.proofs.Frames.{spends-join}
 use Rattle.interval_tree.proofs.Linking.{kid-row-of, shallow}
 use Rattle.interval_tree.specs.Held.{OwnsNode}
+use Rattle.tree_shrink.proofs.Finding.{removed-sorted}
 use Rattle.tree_shrink.proofs.Seams.{body-of, filled, slot-links, slot-place, slot_back, slot_front}
 use Rattle.tree_shrink.specs.Slots.{slot_links}
 use Rattle.tree_shrink.specs.Stages.{Finishing, Lowers}
@@ -45,6 +46,7 @@ lowers c h n xs ps zs qs it f =
         body = body-of (suc h) 3 n (slot_links f.slot f.top l.tree) (ps ++ (zs ++ qs)) (filled (suc h) 3 n f.top ps qs c.args.j f.slot l.tree zs refl kid);
         greatest = f.greatest;
         fits = f.fits;
+        sorted = removed-sorted it xs (ps ++ (zs ++ qs)) f.gone f.sorted;
         gone = f.gone;
         item_is = f.item_is;
       },

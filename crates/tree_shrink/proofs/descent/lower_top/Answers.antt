@@ -40,6 +40,7 @@ set_top-requires-clause-node c =
           (sym (quiet (goal.at.set_top-requires-clause-node c).After-row_at-top)) l.owns,
       l.body,
       some_items (goal.at.set_top-requires-clause-node c).After-count_of c.if-count_of-eq0.false kind n (l.top ∷ l.tail) l.owns,
+      l.sorted,
     )
 
 pub returns-then-count_of-eq0-clause-node : goal.returns-then-count_of-eq0-clause-node
@@ -52,7 +53,7 @@ returns-then-top-item-clause-node c = λ h kind n xs ys it l.
     let at = goal.at.returns-then-top-item-clause-node c in
     let (vs, owns, whole) = c.set_top.ensures.node h kind n (l.top ∷ l.tail) ys
     (subst (λ v. OwnsNode v c.args.row kind n (l.top ∷ l.tail)) (sym (quiet at.After-row_at-top)) l.owns) l.body
-    (some_items at.After-count_of c.if-count_of-eq0.false kind n (l.top ∷ l.tail) l.owns) in
+    (some_items at.After-count_of c.if-count_of-eq0.false kind n (l.top ∷ l.tail) l.owns) l.sorted in
     stood-new h c.set_top.new.seat.view c.args.row kind n ys vs owns whole
 
 pub returns-else-top-item-clause-node : goal.returns-else-top-item-clause-node

@@ -50,6 +50,7 @@ set_top-requires-clause-node c =
       subst (λ v. OwnsNode v c.args.row kind n (top ∷ us)) (sym (quiet (goal.at.set_top-requires-clause-node c).After-may_have)) o.owns,
       o.body,
       o.some_items,
+      o.sorted,
     )
 
 pub set_top-requires-clause-few : goal.set_top-requires-clause-few
@@ -72,6 +73,7 @@ pub returns-then-may_have-clause-node : goal.returns-then-may_have-clause-node
 returns-then-may_have-clause-node c = λ h kind n top us ls l m u R o.
     c.set_top.ensures.node h kind n (top ∷ us) ls
     (subst (λ v. OwnsNode v c.args.row kind n (top ∷ us)) (sym (quiet (goal.at.returns-then-may_have-clause-node c).After-may_have)) o.owns) o.body o.some_items
+    o.sorted
 
 pub returns-then-may_have-clause-spends : goal.returns-then-may_have-clause-spends
 returns-then-may_have-clause-spends c = subst (λ v. SpendsAll 0 (c.args.row ∷ []) (c.args.row ∷ []) v c.set_top.new.seat.view c.args.chain.now

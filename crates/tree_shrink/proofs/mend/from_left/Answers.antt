@@ -6,7 +6,7 @@ use Rattle.latch_item.specs.Items.{word}
 use Rattle.interval_tree.specs.Held.{OwnsNode}
 use Rattle.tree_shrink.proofs.Bench.{Bench, bench-chain, node_at}
 use Rattle.tree_shrink.proofs.Mending.{LentFrom, bench-gained, bench-lent, bench-link, bench-linked, bench-swap, bench-swapped, bench-taken, child-gains}
-use Rattle.tree_shrink.proofs.Mending.{front-moves, item-kid, left-links, lent-refs, roomy, take-can, wider-front}
+use Rattle.tree_shrink.proofs.Mending.{front-moves, item-kid, left-links, left-sorted, lent-refs, roomy, take-can, wider-front}
 use Rattle.tree_shrink.proofs.Seams.{close-left, item_back, item_front, kid-place, kid_back, kid_front, seam-kid}
 use Rattle.tree_shrink.specs.Slots.{Leftward}
 use Rattle.tree_shrink.specs.Stages.{Has, Open}
@@ -43,7 +43,8 @@ module _ {n h : ℕ} {xs ps ys qs R : List Tree} where
       ∷ node_at c.take_child-left.result (word l.kid 1) (word l.kid 2 - 1) g.lent.us ∷ node_at c.args.child o.sort o.count o.below ∷ [])
       (g.m ∷ with_old_target g.lent.u R)
   out c o l rich b =
-      let g = lent-refs b.refs (c.lend_last-item.ensures.lent h (word l.kid 1) (word l.kid 2) (children l.kid) l.l b.owns.1.0 l.part.node (omega arith)) in (
+      let g = lent-refs b.refs (c.lend_last-item.ensures.lent h (word l.kid 1) (word l.kid 2) (children l.kid) l.l b.owns.1.0 l.part.node (omega arith)
+      (left-sorted o l)) in (
         g,
         bench-lent l.seam l.s (kid_front l.seam o.top l.s) (nil ∷ kid_back l.seam) b c.lend_last-item.ensures.spends g.lent.owns g.lent.carried.refs
             (item-kid l.seam o.top l.s),
@@ -52,8 +53,18 @@ module _ {n h : ℕ} {xs ps ys qs R : List Tree} where
 pub lend_last-item-requires-clause-node : goal.lend_last-item-requires-clause-node
 lend_last-item-requires-clause-node c =
     let (n, (h, xs, ps, ys, qs, R, low, o, l, rich, poor)) = c.requires.state in let (rs, g, many) = c.requires.room in
-    let b = taken (goal.at.lend_last-item-requires-clause-node c).After-take_child-left o l g in
-    (h, word l.kid 1, word l.kid 2, children l.kid, l.l, b.owns.1.0, l.part.node, omega arith, (let a = ap length b.refs in let d = o.few in omega arith))
+    let b = taken (goal.at.lend_last-item-requires-clause-node c).After-take_child-left o l g in (
+      h,
+      word l.kid 1,
+      word l.kid 2,
+      children l.kid,
+      l.l,
+      b.owns.1.0,
+      l.part.node,
+      omega arith,
+      (let a = ap length b.refs in let d = o.few in omega arith),
+      left-sorted o l,
+    )
 
 pub lend_last-item-requires-clause-chain : goal.lend_last-item-requires-clause-chain
 lend_last-item-requires-clause-chain c =
