@@ -35,7 +35,8 @@ use Rattle.step_run.specs.Steps.{Step, checked, checked_unless, first_phase, fir
 use Rattle.step_run.specs.Steps.{opened, poisoned, released, released_state, silent, turn, waited, with_new}
 use Rattle.step_run.specs.Valid.{Valid}
 use Rattle.step_run.specs.Checking.{ChecksAs, checked_met, checked_text, passed_met, passed_then, undeclared}
-use Rattle.step_run.specs.Lives.{IsOf, LiveSays, called_request, called_value, ended_with, is_held, is_none, may_poison, seen_live, with_value}
+use Rattle.step_run.specs.Lives.{IsOf, LiveSays, called_request, called_value, cause_of, ended_with, is_held, is_none, may_poison, seen_live}
+use Rattle.step_run.specs.Lives.{with_value}
 use Rattle.step_run.specs.declared.live.Live.{Live}
 use Rattle.step_run.specs.Openings.{TurnsRange, begun_request, begun_value, opening_text, request_text}
 use Rattle.step_run.specs.Runs.{Fits, FitsName, FitsRequest, FitsTurns, FitsValue, IsSame, Makes, Pairs, RunSays, Stands, StandsBut}
@@ -525,6 +526,16 @@ of_called core who (Optimist o) f = f
 of_called core who (Waiting w) f = f
 of_called core who (GrantedValue g) f = f
 of_called core who OverValue f = tt
+
+none_is : (c : Cause) → is_none c ≡ false → c ≡ no_cause → ⊥
+none_is c e f = let g : is_none c ≡ true = ap is_none f in cc
+
+-- one that is not called has no cause where it had none
+pub none_called : (v : Value) → may_poison v ≡ false → cause_of v ≡ no_cause → cause_of (called_value v) ≡ no_cause
+none_called (Optimist o) e f = absurd (none_is o.r.cause e f)
+none_called (Waiting w) e f = absurd (none_is w.r.cause e f)
+none_called (GrantedValue g) e f = absurd (none_is g.r.cause e f)
+none_called OverValue e f = refl
 
 pub kept_value : (i : ℕ) (v : Value) (l : LiveSays) (ls ms new : List LiveSays) → slice_get ls i ≡ Some l → v ≡ l.value → ms ≡ with_value i OverValue ls →
     new ≡ with_value i v ms → new ≡ ls

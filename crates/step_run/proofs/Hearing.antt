@@ -10,14 +10,14 @@ use Rattle.latch_model.specs.declared.history.Cause.{Cause}
 use Rattle.latch_model.specs.declared.history.Cause.TheVariants.{None as no_cause, Called, From}
 use Rattle.latch_model.specs.declared.history.Entry.{Entry}
 use Rattle.latch_model.proofs.Ascending.{Rising}
-use Rattle.latch_model.proofs.Elements.{list_any-map}
+use Rattle.latch_model.proofs.Elements.{Each, Each-map, list_any-map}
 use Rattle.latch_model.proofs.Lists.{In, In-map, list_any-In}
 use Rattle.latch_model.proofs.Members.{filter_of-In, list_any_of}
 use Rattle.signal_board.specs.Views.{RequestView}
 use Rattle.step_run.specs.State.{Granted, Named, Optimistic, Over, Pending, Phase, is_poisoned_in}
 use Rattle.step_run.specs.Steps.{is_over}
 use Rattle.step_run.specs.Valid.{Brief, Valid, brief, brief_of, is_going}
-use Rattle.step_run.specs.Lives.{AreHeard, Heard, HeardOf, LiveSays}
+use Rattle.step_run.specs.Lives.{AreHeard, EachRequest, HasNoCause, HeardOf, KnowsOf, LiveSays, OfRequest, cause_of}
 use Rattle.step_run.specs.Runs.{Fits, FitsName, FitsRequest, FitsValue, Pairs, PairsBut}
 use Rattle.step_run.specs.declared.live.Value.{Value}
 use Rattle.step_run.specs.declared.live.Value.TheVariants.{Optimist, Waiting, Granted as GrantedValue, Over as OverValue}
@@ -80,55 +80,75 @@ pub poisoned_from : (ns : List Named) (n : Named) (id : ℕ) → In n ns → n.i
 poisoned_from ns n id k e f =
     list_any-In (λ (n : Named). cond (n.id == id) (has_cause n.cause) false) ns n k (ap (λ b. cond b (has_cause n.cause) false) (eq-eqb n.id id e) ∙ f)
 
--- What is known of one name.
-pub record IsHeard (by : ℕ) (old new : RequestView) (n : Named) : Type 0 where
-  pub known : n.cause ≢ no_cause → Contains new.poisoned n.id
-  pub right : n.id ≡ by → Contains old.poisoned by → n.cause ≢ no_cause
+-- The request of a name, of which something holds. A name that isn't over has the one of its live name, unless that is lent.
+abbrev pub RequestWith : (RequestView → Type 0) → List Entry → Named → Type 0
+RequestWith P h n = (r : RequestView) × FitsRequest h n r × P r
 
-of_request : (h : List Entry) (by : ℕ) (old new : RequestView) (n : Named) (r : RequestView) → FitsRequest h n r → HeardOf by old new r → IsHeard by old new n
-of_request h by old new n r f k = record {
-  known = λ c. subst (λ (p : ℕ). Contains new.poisoned p) f.id (k.0 (λ e. c (sym f.cause ∙ e)));
-  right = λ e p c. k.1 (f.id ∙ e) p (f.cause ∙ c);
-}
+of_value : (P : RequestView → Type 0) (h : List Entry) (n : Named) (phase : Phase) (v : Value) → FitsValue h n phase v → is_over phase ≡ false →
+    OfRequest P v → RequestWith P h n
+of_value P h n Optimistic (Optimist o) f e k = (o.r, f.0, k)
+of_value P h n Optimistic (Waiting w) f e k = absurd f
+of_value P h n Optimistic (GrantedValue g) f e k = absurd f
+of_value P h n Optimistic OverValue f e k = absurd f
+of_value P h n Pending (Optimist o) f e k = absurd f
+of_value P h n Pending (Waiting w) f e k = (w.r, f.0, k)
+of_value P h n Pending (GrantedValue g) f e k = absurd f
+of_value P h n Pending OverValue f e k = absurd f
+of_value P h n (Granted front) (Optimist o) f e k = absurd f
+of_value P h n (Granted front) (Waiting w) f e k = absurd f
+of_value P h n (Granted front) (GrantedValue g) f e k = (g.r, f.0, k)
+of_value P h n (Granted front) OverValue f e k = absurd f
+of_value P h n Over v f e k = absurd (cc)
 
-of_value : (h : List Entry) (by : ℕ) (old new : RequestView) (n : Named) (phase : Phase) (v : Value) → FitsValue h n phase v → is_over phase ≡ false →
-    Heard by old new v → IsHeard by old new n
-of_value h by old new n Optimistic (Optimist o) f e k = of_request h by old new n o.r f.0 k
-of_value h by old new n Optimistic (Waiting w) f e k = absurd f
-of_value h by old new n Optimistic (GrantedValue g) f e k = absurd f
-of_value h by old new n Optimistic OverValue f e k = absurd f
-of_value h by old new n Pending (Optimist o) f e k = absurd f
-of_value h by old new n Pending (Waiting w) f e k = of_request h by old new n w.r f.0 k
-of_value h by old new n Pending (GrantedValue g) f e k = absurd f
-of_value h by old new n Pending OverValue f e k = absurd f
-of_value h by old new n (Granted front) (Optimist o) f e k = absurd f
-of_value h by old new n (Granted front) (Waiting w) f e k = absurd f
-of_value h by old new n (Granted front) (GrantedValue g) f e k = of_request h by old new n g.r f.0 k
-of_value h by old new n (Granted front) OverValue f e k = absurd f
-of_value h by old new n Over v f e k = absurd (cc)
+request_in : (P : RequestView → Type 0) (h : List Entry) (ns : List Named) (ls : List LiveSays) (n : Named) → Pairs (Fits h) ns ls →
+    EachRequest P ls → In n ns → is_over n.phase ≡ false → RequestWith P h n
+request_in P h [] ls n p a k e = absurd k
+request_in P h (m ∷ ns) [] n p a k e = absurd p
+request_in P h (m ∷ ns) (l ∷ ls) n p a (inl same) e =
+    let f : FitsValue h n n.phase l.value = subst (λ (x : Named). FitsValue h x x.phase l.value) same p.0.1 in of_value P h n n.phase l.value f e a.0
+request_in P h (m ∷ ns) (l ∷ ls) n p a (inr k) e = request_in P h ns ls n p.1 a.1 k e
 
-heard_in : (h : List Entry) (by : ℕ) (old new : RequestView) (ns : List Named) (ls : List LiveSays) (n : Named) → Pairs (Fits h) ns ls →
-    AreHeard by old new ls → In n ns → is_over n.phase ≡ false → IsHeard by old new n
-heard_in h by old new [] ls n p a k e = absurd k
-heard_in h by old new (m ∷ ns) [] n p a k e = absurd p
-heard_in h by old new (m ∷ ns) (l ∷ ls) n p a (inl same) e =
-    let f : FitsValue h n n.phase l.value = subst (λ (x : Named). FitsValue h x x.phase l.value) same p.0.1 in
-    of_value h by old new n n.phase l.value f e a.0
-heard_in h by old new (m ∷ ns) (l ∷ ls) n p a (inr k) e = heard_in h by old new ns ls n p.1 a.1 k e
-
-pub heard_name : (h : List Entry) (by i : ℕ) (old new : RequestView) (ns : List Named) (ls : List LiveSays) (own n : Named) →
-    PairsBut i (Fits h) FitsName ns ls → slice_get ns i ≡ Some own → AreHeard by old new ls → In n ns → n.id ≢ own.id → is_over n.phase ≡ false →
-    IsHeard by old new n
-heard_name h by i old new [] ls own n p at a k d e = absurd k
-heard_name h by i old new (m ∷ ns) [] own n p at a k d e = absurd (no_pair i p)
+pub request_of : (P : RequestView → Type 0) (h : List Entry) (i : ℕ) (ns : List Named) (ls : List LiveSays) (own n : Named) →
+    PairsBut i (Fits h) FitsName ns ls → slice_get ns i ≡ Some own → EachRequest P ls → In n ns → n.id ≢ own.id → is_over n.phase ≡ false → RequestWith P h n
+request_of P h i [] ls own n p at a k d e = absurd k
+request_of P h i (m ∷ ns) [] own n p at a k d e = absurd (no_pair i p)
   where
     no_pair : (i : ℕ) → PairsBut i (Fits h) FitsName (m ∷ ns) [] → ⊥
     no_pair zero p = p
     no_pair (suc i) p = p
-heard_name h by zero old new (m ∷ ns) (l ∷ ls) own n p at a (inl same) d e =
+request_of P h zero (m ∷ ns) (l ∷ ls) own n p at a (inl same) d e =
     let x : m ≡ own = cc in absurd (d (ap (λ (n : Named). n.id) (sym same ∙ x)))
-heard_name h by zero old new (m ∷ ns) (l ∷ ls) own n p at a (inr k) d e = heard_in h by old new ns ls n p.1 a.1 k e
-heard_name h by (suc i) old new (m ∷ ns) (l ∷ ls) own n p at a (inl same) d e =
-    let f : FitsValue h n n.phase l.value = subst (λ (x : Named). FitsValue h x x.phase l.value) same p.0.1 in
-    of_value h by old new n n.phase l.value f e a.0
-heard_name h by (suc i) old new (m ∷ ns) (l ∷ ls) own n p at a (inr k) d e = heard_name h by i old new ns ls own n p.1 at a.1 k d e
+request_of P h zero (m ∷ ns) (l ∷ ls) own n p at a (inr k) d e = request_in P h ns ls n p.1 a.1 k e
+request_of P h (suc i) (m ∷ ns) (l ∷ ls) own n p at a (inl same) d e =
+    let f : FitsValue h n n.phase l.value = subst (λ (x : Named). FitsValue h x x.phase l.value) same p.0.1 in of_value P h n n.phase l.value f e a.0
+request_of P h (suc i) (m ∷ ns) (l ∷ ls) own n p at a (inr k) d e = request_of P h i ns ls own n p.1 at a.1 k d e
+
+-- A name with a cause is known to have one, where its request is.
+pub known_name : (h : List Entry) (new : RequestView) (n : Named) → RequestWith (KnowsOf new) h n → n.cause ≢ no_cause → Contains new.poisoned n.id
+known_name h new n q c =
+    let f = q.1 in subst (λ (p : ℕ). Contains new.poisoned p) f.id (q.2 (λ e. c (sym f.cause ∙ e)))
+
+-- And one that was known to have a cause has one, where its request was heard by its number.
+pub right_name : (h : List Entry) (by : ℕ) (old new : RequestView) (n : Named) → RequestWith (HeardOf by old new) h n → n.id ≡ by →
+    Contains old.poisoned by → n.cause ≢ no_cause
+right_name h by old new n q e p c = let f = q.1 in q.2.1 (f.id ∙ e) p (f.cause ∙ c)
+
+-- Of requests that have been heard each cause is known, and of those without a cause there is none to know.
+pub knows_heard : (by : ℕ) (old new : RequestView) (ls : List LiveSays) → AreHeard by old new ls → EachRequest (KnowsOf new) ls
+knows_heard by old new ls h =
+    Each-map (λ (l : LiveSays). OfRequest (HeardOf by old new) l.value) (λ (l : LiveSays). OfRequest (KnowsOf new) l.value) (λ l k. one l.value k) ls h
+  where
+    one : (v : Value) → OfRequest (HeardOf by old new) v → OfRequest (KnowsOf new) v
+    one (Optimist o) k = k.0
+    one (Waiting w) k = k.0
+    one (GrantedValue g) k = k.0
+    one OverValue k = tt
+
+pub knows_none : (new : RequestView) (ls : List LiveSays) → Each HasNoCause ls → EachRequest (KnowsOf new) ls
+knows_none new ls h = Each-map HasNoCause (λ (l : LiveSays). OfRequest (KnowsOf new) l.value) (λ l k. one l.value k) ls h
+  where
+    one : (v : Value) → cause_of v ≡ no_cause → OfRequest (KnowsOf new) v
+    one (Optimist o) e = λ c. absurd (c e)
+    one (Waiting w) e = λ c. absurd (c e)
+    one (GrantedValue g) e = λ c. absurd (c e)
+    one OverValue e = tt

@@ -103,7 +103,7 @@ itself l = ap (λ (v : Value). let r : LiveSays = record l { value = v } in r) (
     same (Granted g) = refl
     same Over = refl
 
-all_themselves : (ls ms : List LiveSays) → ms ≡ ls → AreWarned ls ms
+pub all_themselves : (ls ms : List LiveSays) → ms ≡ ls → AreWarned ls ms
 all_themselves [] [] e = tt
 all_themselves [] (m ∷ ms) e = absurd (cc)
 all_themselves (l ∷ ls) [] e = absurd (cc)

@@ -10,10 +10,11 @@ use Rattle.latch_model.specs.declared.latch.Mode.TheVariants.{Acquire, Optimisti
 use Rattle.sequence_core.specs.Says.{next_entry}
 use Rattle.step_run.specs.State.{Named, State}
 use Rattle.step_run.specs.Steps.{Step, first_phase, first_turn, metrics_line, new_begin, new_name, opening, waited, with_new}
+use Rattle.latch_model.specs.declared.history.Cause.TheVariants.{None as no_cause}
 use Rattle.latch_model.specs.declared.history.Entry.{Entry}
 use Rattle.signal_board.specs.Views.{RequestView}
 use Rattle.waiter.specs.Says.{CoreId, id_of}
-use Rattle.step_run.specs.Lives.{IsLive, IsOf, LiveSays, is_held}
+use Rattle.step_run.specs.Lives.{HasNoCause, IsLive, IsOf, LiveSays, cause_of, is_held}
 use Rattle.step_run.specs.Seen.{seen_run}
 use Rattle.step_run.specs.declared.live.Value.{Value}
 use Rattle.step_run.specs.declared.run.StepRun.{StepRun}
@@ -79,6 +80,15 @@ begun_of core log session mode request v e = subst (λ (x : Value). IsOf core se
     by optimistic_mode = (refl, refl)
     by Look = (refl, refl)
 
+pub begun_none : (core : CoreId) (log : List Entry) (session : ℕ) (mode : Mode) (request : Declaration) → (v : Value) →
+    v ≡ begun_value core mode (begun_request log session mode request) → cause_of v ≡ no_cause
+begun_none core log session mode request v e = ap cause_of e ∙ by mode
+  where
+    by : (m : Mode) → cause_of (begun_value core m (begun_request log session mode request)) ≡ no_cause
+    by Acquire = refl
+    by optimistic_mode = refl
+    by Look = refl
+
 pub begun_held : (core : CoreId) (mode : Mode) (q : RequestView) (v : Value) → v ≡ begun_value core mode q → (is_held v ≡ true) × IsBegun v
 begun_held core mode q v e = subst (λ (x : Value). (is_held x ≡ true) × IsBegun x) (sym e) (by mode)
   where
@@ -88,10 +98,10 @@ begun_held core mode q v e = subst (λ (x : Value). (is_held x ≡ true) × IsBe
     by Look = (refl, tt)
 
 pub pushed_sound : (old new : StepRun) (l : LiveSays) → new.core ≡ old.core → new.desk ≡ old.desk → new.passes.items ≡ old.passes.items →
-    (seen_run new).lives ≡ (seen_run old).lives ++ l ∷ [] → IsLive (id_of old.core) l → is_held l.value ≡ true → Sound l.session (seen_run old) →
-    Sound 0 (seen_run new)
-pushed_sound old new l a b c e live held h =
-    subst (λ (r : RunSays). Sound 0 r) (sym (seen_moved old new a b c)) (sound_push (seen_run old) l (seen_run new).lives live held e h)
+    new.some_cause ≡ old.some_cause → (seen_run new).lives ≡ (seen_run old).lives ++ l ∷ [] → IsLive (id_of old.core) l → HasNoCause l →
+    is_held l.value ≡ true → Sound l.session (seen_run old) → Sound 0 (seen_run new)
+pushed_sound old new l a b c d e live none held h =
+    subst (λ (r : RunSays). Sound 0 r) (sym (seen_moved old new a b c d)) (sound_push (seen_run old) l (seen_run new).lives live none held e h)
 
 pub pushed_at : (ls new : List LiveSays) (l : LiveSays) → new ≡ ls ++ l ∷ [] → slice_get new (length ls) ≡ Some l
 pushed_at ls new l e = ap (λ (xs : List LiveSays). slice_get xs (length ls)) e ∙ get_push ls l

@@ -1,16 +1,19 @@
 -- A run stays sound by each change of its passes and of its live names.
-use Rattle.std.proofs.Common.{◌≡◌, ◌≢◌, ℕ, zero, suc, ◌+◌, ◌-◌, ◌≤◌, Bool, true, false, ◌&&◌, ◌||◌, ◌==◌, List, [], ◌∷◌, ◌++◌, length, Some, refl, sym}
+use Rattle.std.proofs.Common.{◌≡◌, ◌≢◌, ℕ, zero, suc, ◌+◌, ◌-◌, ◌≤◌, Bool, true, false, not, ◌&&◌, ◌||◌, ◌==◌, List, [], ◌∷◌, ◌++◌, length, Some, refl, sym}
 use Rattle.std.proofs.Common.{ap, ◌∙◌, subst, arith}
 use Rattle.std.specs.Prelude.{slice_get, slice_set}
 use Rattle.std.specs.List.{remove}
 use Rattle.std.proofs.lemmas.Bool.{eq-eqb, eqb-true, ne_eqb, or_left, or_right}
 use Rattle.std.proofs.lemmas.List.Folds.{list_any-append}
+use Rattle.latch_model.specs.declared.history.Cause.{Cause}
+use Rattle.latch_model.specs.declared.history.Cause.TheVariants.{None as no_cause, Called, From}
 use Rattle.latch_model.specs.declared.history.Entry.{Entry}
 use Rattle.latch_model.proofs.Elements.{Each, Each-append}
 use Rattle.signal_board.specs.Rule.{open_count}
 use Rattle.signal_board.specs.Says.{PassSays}
 use Rattle.waiter.specs.Says.{CoreId, OptimistSays, WaitingSays}
-use Rattle.step_run.specs.Lives.{AreWarned, IsLive, IsOf, LiveSays, has_name, has_open, is_held, lent_by, warned_live, warned_value, with_value}
+use Rattle.step_run.specs.Lives.{AreWarned, HasNoCause, IsLive, IsOf, LiveSays, cause_of, has_name, has_open, is_held, is_none, lent_by, warned_live}
+use Rattle.step_run.specs.Lives.{warned_value, with_value}
 use Rattle.step_run.specs.Runs.{IsLent, IsPass, RunSays, Sound}
 use Rattle.step_run.specs.declared.live.Value.{Value}
 use Rattle.step_run.specs.declared.live.Value.TheVariants.{Optimist, Waiting, Granted, Over}
@@ -98,11 +101,36 @@ lives_valued core (suc i) v [] f h = tt
 lives_valued core zero v (l ∷ ls) f h = (record { low = h.0.low; high = h.0.high; of = f l refl }, h.1)
 lives_valued core (suc i) v (l ∷ ls) f h = (h.0, lives_valued core i v ls f h.1)
 
+-- live names of which none has a cause, after a change
+none_warned : (ls ms : List LiveSays) → AreWarned ls ms → Each HasNoCause ls → Each HasNoCause ms
+none_warned [] [] h k = tt
+none_warned [] (m ∷ ms) h k = absurd h
+none_warned (l ∷ ls) [] h k = absurd h
+none_warned (l ∷ ls) (m ∷ ms) h k = (ap cause_of (ap (λ (x : LiveSays). x.value) h.0.1) ∙ same h.0.0 l.value ∙ k.0, none_warned ls ms h.1 k.1)
+  where
+    same : (ps : List ℕ) (v : Value) → cause_of (warned_value ps v) ≡ cause_of v
+    same ps (Optimist o) = refl
+    same ps (Waiting w) = refl
+    same ps (Granted g) = refl
+    same ps Over = refl
+
+none_valued : (i : ℕ) (v : Value) (ls : List LiveSays) → cause_of v ≡ no_cause → Each HasNoCause ls → Each HasNoCause (with_value i v ls)
+none_valued zero v [] e h = tt
+none_valued (suc i) v [] e h = tt
+none_valued zero v (l ∷ ls) e h = (e, h.1)
+none_valued (suc i) v (l ∷ ls) e h = (h.0, none_valued i v ls e h.1)
+
+pub none_noted : (a b : Bool) (c : Cause) → b ≡ (a || not (is_none c)) → b ≡ false → (a ≡ false) × (c ≡ no_cause)
+none_noted true b c e f = absurd (cc)
+none_noted false b no_cause e f = (refl, refl)
+none_noted false b Called e f = absurd (cc)
+none_noted false b (From p) e f = absurd (cc)
+
 -- Other live names, of which each session without an open request had none before.
-with_lives : (r : RunSays) (old new : ℕ) (ls : List LiveSays) →
-    ((j : ℕ) → j ≢ 0 → j ≢ new → has_open j ls ≡ false → (j ≢ old) × (has_open j r.lives ≡ false)) → Each (IsLive r.core) ls → Sound old r →
-    Sound new (record r { lives = ls })
-with_lives r old new ls f g h = record {
+with_lives : (r : RunSays) (old new : ℕ) (ls : List LiveSays) (some : Bool) →
+    ((j : ℕ) → j ≢ 0 → j ≢ new → has_open j ls ≡ false → (j ≢ old) × (has_open j r.lives ≡ false)) → Each (IsLive r.core) ls →
+    (some ≡ false → Each HasNoCause ls) → Sound old r → Sound new (record r { lives = ls; some_cause = some })
+with_lives r old new ls some f g causes h = record {
   core = h.core;
   sizes = h.sizes;
   given = h.given;
@@ -113,15 +141,17 @@ with_lives r old new ls f g h = record {
     idle = λ d o. let w = f (i + 1) (λ z. absurd (omega arith)) d o in k.idle w.0 w.1;
   };
   lives = g;
+  causes = causes;
 }
 
 -- A value is lent.
 pub sound_take : (r : RunSays) (i : ℕ) (l : LiveSays) (ls : List LiveSays) → slice_get r.lives i ≡ Some l → ls ≡ with_value i Over r.lives → Sound 0 r →
     Sound l.session (record r { lives = ls })
 sound_take r i l ls at e h =
-    with_lives r 0 l.session ls
+    with_lives r 0 l.session ls r.some_cause
     (λ j z d o. (z, sym (open_other j i Over r.lives l at (λ g. d (sym g))) ∙ ap (λ (xs : List LiveSays). has_open j xs) (sym e) ∙ o))
-    (subst (λ (xs : List LiveSays). Each (IsLive r.core) xs) (sym e) (lives_valued r.core i Over r.lives (λ l e. tt) h.lives)) h
+    (subst (λ (xs : List LiveSays). Each (IsLive r.core) xs) (sym e) (lives_valued r.core i Over r.lives (λ l e. tt) h.lives))
+    (λ g. subst (λ (xs : List LiveSays). Each HasNoCause xs) (sym e) (none_valued i Over r.lives refl (h.causes g))) h
 
 pub lent_take : (r : RunSays) (i : ℕ) (l : LiveSays) (ls : List LiveSays) → slice_get r.lives i ≡ Some l → ls ≡ with_value i Over r.lives →
     IsLent i l.session (record r { lives = ls })
@@ -141,18 +171,27 @@ lent_take r i l ls at e = record {
 clash : {a : Bool} → a ≡ true → a ≡ false → ⊥
 clash e f = cc
 
-pub sound_put : (r : RunSays) (i who : ℕ) (v : Value) (ls : List LiveSays) → IsLent i who r → is_held v ≡ true → IsOf r.core who v →
-    ls ≡ with_value i v r.lives → Sound who r → Sound 0 (record r { lives = ls })
-sound_put r i who v ls k held of e h =
-    with_lives r who 0 ls
+pub sound_put : (r : RunSays) (i who : ℕ) (v : Value) (ls : List LiveSays) (some : Bool) → IsLent i who r → is_held v ≡ true → IsOf r.core who v →
+    ls ≡ with_value i v r.lives → some ≡ (r.some_cause || not (is_none (cause_of v))) → Sound who r → Sound 0 (record r { lives = ls; some_cause = some })
+sound_put r i who v ls some k held of e noted h =
+    with_lives r who 0 ls some
     (λ j z d o. let free : has_open j (with_value i v r.lives) ≡ false = ap (λ (xs : List LiveSays). has_open j xs) (sym e) ∙ o in
     let other : j ≢ who = λ g. clash (open_held j i v r.lives k.live k.at (k.session ∙ sym g) held) free in
     (other, sym (open_other j i v r.lives k.live k.at (λ g. other (sym g ∙ k.session))) ∙ free))
     (subst (λ (xs : List LiveSays). Each (IsLive r.core) xs) (sym e) (lives_valued r.core i v r.lives
-    (λ l g. subst (λ w. IsOf r.core w v) (sym k.session ∙ ap (λ (y : LiveSays). y.session) (one_only k.at g)) of) h.lives)) h
+    (λ l g. subst (λ w. IsOf r.core w v) (sym k.session ∙ ap (λ (y : LiveSays). y.session) (one_only k.at g)) of) h.lives))
+    (λ g. let w = none_noted r.some_cause some (cause_of v) noted g in
+    subst (λ (xs : List LiveSays). Each HasNoCause xs) (sym e) (none_valued i v r.lives w.1 (h.causes w.0))) h
   where
     one_only : {a b : LiveSays} → slice_get r.lives i ≡ Some a → slice_get r.lives i ≡ Some b → a ≡ b
     one_only f g = cc
+
+-- It is given back as it was.
+pub sound_kept : (r : RunSays) (v : Value) (ls : List LiveSays) (some : Bool) → ls ≡ r.lives → some ≡ (r.some_cause || not (is_none (cause_of v))) → Sound 0 r →
+    Sound 0 (record r { lives = ls; some_cause = some })
+sound_kept r v ls some e noted h =
+    subst (λ (xs : List LiveSays). Sound 0 (record r { lives = xs; some_cause = some })) (sym e)
+    (with_lives r 0 0 r.lives some (λ j z d o. (z, o)) h.lives (λ g. h.causes (none_noted r.some_cause some (cause_of v) noted g).0) h)
 
 -- The session of a name that is lent.
 pub lent_session : (r : RunSays) (i who : ℕ) (lent : ℕ) → IsLent i who r → Sound lent r → (1 ≤ who) × (who ≤ 64)
@@ -163,7 +202,8 @@ lent_session r i who lent k h =
 -- Live names are warned.
 pub sound_warned : (r : RunSays) (lent : ℕ) (ls : List LiveSays) → AreWarned r.lives ls → Sound lent r → Sound lent (record r { lives = ls })
 sound_warned r lent ls a h =
-    with_lives r lent lent ls (λ j z d o. (d, sym (open_warned j r.lives ls a) ∙ o)) (lives_warned r.core r.lives ls a h.lives) h
+    with_lives r lent lent ls r.some_cause (λ j z d o. (d, sym (open_warned j r.lives ls a) ∙ o)) (lives_warned r.core r.lives ls a h.lives)
+    (λ g. none_warned r.lives ls a (h.causes g)) h
 
 warned_there : (xs ys : List LiveSays) (i : ℕ) (l : LiveSays) → AreWarned xs ys → slice_get xs i ≡ Some l →
     (m : LiveSays) × (slice_get ys i ≡ Some m) × ((ps : List ℕ) × (m ≡ warned_live ps l))
@@ -187,13 +227,14 @@ lent_warned r i who ls a k =
 pub sound_remove : (r : RunSays) (i : ℕ) (l : LiveSays) (ls : List LiveSays) → slice_get r.lives i ≡ Some l → ls ≡ remove r.lives i → Sound 0 r →
     Sound (lent_by l.value) (record r { lives = ls })
 sound_remove r i l ls at e h =
-    with_lives r 0 (lent_by l.value) ls
+    with_lives r 0 (lent_by l.value) ls r.some_cause
     (λ j z d o. (
       z,
       sym (open_removed j i r.lives l at (gone l.value j z d (Each-at (IsLive r.core) r.lives i l at h.lives).of))
           ∙ ap (λ (xs : List LiveSays). has_open j xs) (sym e) ∙ o,
     ))
-    (subst (λ (xs : List LiveSays). Each (IsLive r.core) xs) (sym e) (Each-remove (IsLive r.core) r.lives i h.lives)) h
+    (subst (λ (xs : List LiveSays). Each (IsLive r.core) xs) (sym e) (Each-remove (IsLive r.core) r.lives i h.lives))
+    (λ g. subst (λ (xs : List LiveSays). Each HasNoCause xs) (sym e) (Each-remove HasNoCause r.lives i (h.causes g))) h
   where
     other_session : (j w : ℕ) → j ≢ w → w ≡ l.session → (v : Value) → ((l.session == j) && is_held v) ≡ false
     other_session j w d e v = both_false (l.session == j) (is_held v) (ne_eqb l.session j (λ g. d (sym g ∙ sym e)))
@@ -227,12 +268,13 @@ live_last core l [] h = h.0
 live_last core l (x ∷ xs) h = live_last core l xs h.1
 
 -- A name is opened.
-pub sound_push : (r : RunSays) (l : LiveSays) (ls : List LiveSays) → IsLive r.core l → is_held l.value ≡ true → ls ≡ r.lives ++ l ∷ [] → Sound l.session r →
-    Sound 0 (record r { lives = ls })
-sound_push r l ls k held e h =
-    with_lives r l.session 0 ls
+pub sound_push : (r : RunSays) (l : LiveSays) (ls : List LiveSays) → IsLive r.core l → HasNoCause l → is_held l.value ≡ true → ls ≡ r.lives ++ l ∷ [] →
+    Sound l.session r → Sound 0 (record r { lives = ls })
+sound_push r l ls k none held e h =
+    with_lives r l.session 0 ls r.some_cause
     (λ j z d o. by j (has_open j r.lives) (l.session == j) refl refl (sym (open_pushed j r.lives l) ∙ ap (λ (xs : List LiveSays). has_open j xs) (sym e) ∙ o))
-    (subst (λ (xs : List LiveSays). Each (IsLive r.core) xs) (sym e) (Each-append (IsLive r.core) r.lives (l ∷ []) h.lives (k, tt))) h
+    (subst (λ (xs : List LiveSays). Each (IsLive r.core) xs) (sym e) (Each-append (IsLive r.core) r.lives (l ∷ []) h.lives (k, tt)))
+    (λ g. subst (λ (xs : List LiveSays). Each HasNoCause xs) (sym e) (Each-append HasNoCause r.lives (l ∷ []) (h.causes g) (none, tt))) h
   where
     by : (j : ℕ) (a b : Bool) → has_open j r.lives ≡ a → (l.session == j) ≡ b →
         (has_open j r.lives || (((l.session == j) && is_held l.value) || false)) ≡ false →
@@ -272,6 +314,7 @@ sound_passed r old new who p q h low at t w idle other s = record {
   count = set_length r.passes (who - 1) q ∙ s.count;
   passes = λ i x e. by i x e (i == (who - 1)) refl;
   lives = s.lives;
+  causes = s.causes;
 }
   where
     here : IsPass r.core old r.lives (who - 1) p
@@ -296,12 +339,16 @@ sound_passed r old new who p q h low at t w idle other s = record {
         }
 
 -- A value changes in its place.
-pub sound_value : (r : RunSays) (i : ℕ) (l : LiveSays) (v : Value) (ls : List LiveSays) → slice_get r.lives i ≡ Some l → is_held v ≡ is_held l.value →
-    IsOf r.core l.session v → ls ≡ with_value i v r.lives → Sound 0 r → Sound 0 (record r { lives = ls })
-sound_value r i l v ls at held of e h =
-    with_lives r 0 0 ls (λ j z d o. (z, sym (same j r.lives i at) ∙ ap (λ (xs : List LiveSays). has_open j xs) (sym e) ∙ o))
+pub sound_value : (r : RunSays) (i : ℕ) (l : LiveSays) (v : Value) (ls : List LiveSays) (some : Bool) → slice_get r.lives i ≡ Some l →
+    is_held v ≡ is_held l.value → IsOf r.core l.session v → ls ≡ with_value i v r.lives →
+    (some ≡ false → (r.some_cause ≡ false) × (cause_of l.value ≡ no_cause → cause_of v ≡ no_cause)) → Sound 0 r →
+    Sound 0 (record r { lives = ls; some_cause = some })
+sound_value r i l v ls some at held of e none h =
+    with_lives r 0 0 ls some (λ j z d o. (z, sym (same j r.lives i at) ∙ ap (λ (xs : List LiveSays). has_open j xs) (sym e) ∙ o))
     (subst (λ (xs : List LiveSays). Each (IsLive r.core) xs) (sym e) (lives_valued r.core i v r.lives
-    (λ k g. subst (λ w. IsOf r.core w v) (ap (λ (y : LiveSays). y.session) (one_only at g)) of) h.lives)) h
+    (λ k g. subst (λ w. IsOf r.core w v) (ap (λ (y : LiveSays). y.session) (one_only at g)) of) h.lives))
+    (λ g. let w = none g in let before = h.causes w.0 in
+    subst (λ (xs : List LiveSays). Each HasNoCause xs) (sym e) (none_valued i v r.lives (w.1 (Each-at HasNoCause r.lives i l at before)) before)) h
   where
     one_only : {a b : LiveSays} → slice_get r.lives i ≡ Some a → slice_get r.lives i ≡ Some b → a ≡ b
     one_only f g = cc

@@ -6,6 +6,7 @@ use Rattle.latch_model.specs.declared.history.Cause.TheVariants.{None as no_caus
 use Rattle.latch_model.specs.declared.history.Fault.TheVariants.{None as no_fault}
 use Rattle.latch_model.specs.declared.history.Grant.TheVariants.{Never}
 use Rattle.latch_model.specs.declared.latch.Mode.{Mode}
+use Rattle.latch_model.proofs.Elements.{Each}
 use Rattle.script.specs.Follows.{passed_grant}
 use Rattle.script.specs.declared.limits.TheConstants.{SESSION_LIMIT}
 use Rattle.signal_board.specs.Says.{first_cause}
@@ -78,27 +79,47 @@ AreWarned [] [] = Unit {0}
 AreWarned (l ∷ ls) (m ∷ ms) = ((ps : List ℕ) × (m ≡ warned_live ps l)) × AreWarned ls ms
 AreWarned ls ms = ⊥
 
+-- What holds of a value's request, if it is open, and of those of all live names.
+abbrev pub OfRequest : (RequestView → Type 0) → Value → Type 0
+OfRequest P (Optimist o) = P o.r
+OfRequest P (Waiting w) = P w.r
+OfRequest P (Granted g) = P g.r
+OfRequest P Over = Unit {0}
+
+abbrev pub EachRequest : (RequestView → Type 0) → List LiveSays → Type 0
+EachRequest P ls = Each (λ l. OfRequest P l.value) ls
+
+-- A request knows of another that it has a cause, if it has one.
+abbrev pub KnowsOf : RequestView → RequestView → Type 0
+KnowsOf new r = r.cause ≢ no_cause → Contains new.poisoned r.id
+
 -- What a request knows after it has heard another: where the other has a cause, that it has; and where the other has this number, that it
 -- has, if it was known to have one.
 abbrev pub HeardOf : ℕ → RequestView → RequestView → RequestView → Type 0
 HeardOf by old new r =
-    (r.cause ≢ no_cause → Contains new.poisoned r.id) × (r.id ≡ by → Contains old.poisoned by → r.cause ≢ no_cause)
+    KnowsOf new r × (r.id ≡ by → Contains old.poisoned by → r.cause ≢ no_cause)
 
 abbrev pub Heard : ℕ → RequestView → RequestView → Value → Type 0
-Heard by old new (Optimist o) = HeardOf by old new o.r
-Heard by old new (Waiting w) = HeardOf by old new w.r
-Heard by old new (Granted g) = HeardOf by old new g.r
-Heard by old new Over = Unit {0}
+Heard by old new v = OfRequest (HeardOf by old new) v
 
 abbrev pub AreHeard : ℕ → RequestView → RequestView → List LiveSays → Type 0
-AreHeard by old new [] = Unit {0}
-AreHeard by old new (l ∷ ls) = Heard by old new l.value × AreHeard by old new ls
+AreHeard by old new ls = EachRequest (HeardOf by old new) ls
 
 -- whether there is no cause
 abbrev pub is_none : Cause → Bool
 is_none no_cause = true
 is_none Called = false
 is_none (From p) = false
+
+-- The cause of a value's request, and a live name whose request has none.
+abbrev pub cause_of : Value → Cause
+cause_of (Optimist o) = o.r.cause
+cause_of (Waiting w) = w.r.cause
+cause_of (Granted g) = g.r.cause
+cause_of Over = no_cause
+
+abbrev pub HasNoCause : LiveSays → Type 0
+HasNoCause l = cause_of l.value ≡ no_cause
 
 -- Whether a value's request is open without a cause, and the value after a call for one.
 abbrev pub may_poison : Value → Bool

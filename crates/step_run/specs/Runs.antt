@@ -17,11 +17,12 @@ use Rattle.waiter.specs.Says.{Blocked, CoreId, Poisoned, Ready, WaitingSays}
 use Rattle.step_run.specs.State.{Granted, Named, Optimistic, Over, Pending, Phase, State, is_poisoned_in}
 use Rattle.step_run.specs.Steps.{Step, spread_to}
 use Rattle.step_run.specs.Valid.{Valid}
-use Rattle.step_run.specs.Lives.{IsLive, LiveSays, has_open}
+use Rattle.step_run.specs.Lives.{HasNoCause, IsLive, LiveSays, has_open}
 use Rattle.step_run.specs.declared.live.Value.{Value}
 use Rattle.step_run.specs.declared.live.Value.TheVariants.{Optimist, Waiting, Granted as GrantedValue, Over as OverValue}
 
--- A run: its core and that of its desk, the desk's sizes, how many passes it gave and its history, the passes and the live names.
+-- A run: its core and that of its desk, the desk's sizes, how many passes it gave and its history, the passes and the live names, and whether
+-- some live request may have a cause.
 pub record RunSays : Type 0 where
   pub core : CoreId
   pub desk : CoreId
@@ -30,6 +31,7 @@ pub record RunSays : Type 0 where
   pub log : List Entry
   pub passes : List PassSays
   pub lives : List LiveSays
+  pub some_cause : Bool
 
 -- The sizes at which the program runs a script.
 abbrev pub program_sizes : Sizes
@@ -47,7 +49,8 @@ pub record IsPass (core : CoreId) (lent : ℕ) (ls : List LiveSays) (i : ℕ) (p
   pub who : p.p.who ≡ i + 1
   pub idle : i + 1 ≢ lent → has_open (i + 1) ls ≡ false → open_count p.p.mine ≡ 0
 
--- All that a run needs to go on and to be closed. The request of one session, or of none where that is 0, may be lent to a call.
+-- All that a run needs to go on and to be closed. The request of one session, or of none where that is 0, may be lent to a call. Where no live
+-- request may have a cause, none has.
 pub record Sound (lent : ℕ) (r : RunSays) : Type 0 where
   pub core : r.desk ≡ r.core
   pub sizes : HasProgramRoom r.sizes
@@ -55,6 +58,7 @@ pub record Sound (lent : ℕ) (r : RunSays) : Type 0 where
   pub count : length r.passes ≡ SESSION_LIMIT
   pub passes : (i : ℕ) (p : PassSays) → slice_get r.passes i ≡ Some p → IsPass r.core lent r.lives i p
   pub lives : Each (IsLive r.core) r.lives
+  pub causes : r.some_cause ≡ false → Each HasNoCause r.lives
 
 -- The live name at a place is of this session, and its value is lent to a call.
 pub record IsLent (i who : ℕ) (r : RunSays) : Type 0 where

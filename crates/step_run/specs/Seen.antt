@@ -14,4 +14,5 @@ seen_run r = record {
   log = r.desk.log;
   passes = r.passes.items;
   lives = map seen_live r.lives.items;
+  some_cause = r.some_cause;
 }

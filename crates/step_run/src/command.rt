@@ -99,7 +99,12 @@ pub(crate) fn wait_at(run: &mut StepRun, i: usize, out: &mut Vec<u8>) -> Result<
         Value::Optimist(optimist) => turn(run, i, optimist.into_waiting(), out),
         Value::Waiting(waiting) => turn(run, i, waiting, out),
         Value::Granted(granted) => {
-            put(&mut run.lives, i, Value::Granted(granted));
+            put(
+                &mut run.lives,
+                &mut run.some_cause,
+                i,
+                Value::Granted(granted),
+            );
             Ok(())
         }
         Value::Over => Ok(()),
@@ -212,6 +217,7 @@ fn poison_at(run: &mut StepRun, i: usize, out: &mut Vec<u8>) -> Result<(), Memor
 {
     let live = &mut run.lives[i];
     if poison(&run.core, &mut *live.value) {
+        run.some_cause = true;
         words_line(live.name, b"poisons", out)
     } else {
         Ok(())

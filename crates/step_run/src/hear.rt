@@ -1,15 +1,78 @@
 // What a waiting request hears of the others.
-ghost use Rattle.std.specs.Prelude.{◌≡◌, ◌<◌, ℕ, List, map, length, Some, slice_get};
+ghost use Rattle.std.specs.Prelude.{◌≡◌, ◌<◌, ℕ, false, true, List, map, length, Some, slice_get};
 ghost use Rattle.latch_model.proofs.Elements.{Each};
 ghost use Rattle.signal_board.specs.Steps.{warned};
-ghost use Rattle.step_run.specs.Lives.{AreHeard, AreWarned, Heard, HeardOf, IsLive, IsOf, LiveSays, seen_live, warned_value, with_value};
+ghost use Rattle.step_run.specs.Asked.{blocker, may_be_poisoned};
+ghost use Rattle.step_run.specs.Lives.{AreHeard, AreWarned, EachRequest, HasNoCause, Heard, HeardOf, IsLive, IsOf, KnowsOf, LiveSays, seen_live};
+ghost use Rattle.step_run.specs.Lives.{warned_value, with_value};
 ghost use Rattle.waiter.specs.Says.{id_of};
 
 use crate::live::{Live, Value, is_none};
-use waiter::{Core, Granted, Optimist, Waiting};
+use latch_model::history::Cause;
+use waiter::{Core, Granted, Optimist, Polled, Waiting};
 
-/// Hears each live request that has a cause, and the one of this number.
-pub(crate) fn hear_some(core: &Core, lives: &mut Vec<Live>, waiting: &mut Waiting, by: u64)
+/// Before a poll: hears each live request that has a cause. Where none may have one, there is nobody to hear.
+pub(crate) fn hear_causes(
+    core: &Core,
+    lives: &mut Vec<Live>,
+    waiting: &mut Waiting,
+    some_cause: bool,
+)
+    requires lives { Each (IsLive (id_of core.now)) (map seen_live lives.old.items) }
+    requires core { waiting.old.core ≡ id_of core.now }
+    requires causes { some_cause ≡ false → Each HasNoCause (map seen_live lives.old.items) }
+    ensures lives { AreWarned (map seen_live lives.old.items) (map seen_live lives.new.items) }
+    ensures waiting { (ps : List ℕ) × (waiting.new ≡ record waiting.old { r = warned ps waiting.old.r }) }
+    ensures knows { EachRequest (KnowsOf waiting.new.r) (map seen_live lives.old.items) }
+{
+    if some_cause {
+        // No request has the number 0.
+        hear_some(core, lives, waiting, 0);
+    }
+}
+
+/// After a poll: hears the request that is in the way, where it may have been found poisoned.
+pub(crate) fn hear_blocker(
+    core: &Core,
+    lives: &mut Vec<Live>,
+    waiting: &mut Waiting,
+    polled: Polled,
+)
+    requires lives { Each (IsLive (id_of core.now)) (map seen_live lives.old.items) }
+    requires core { waiting.old.core ≡ id_of core.now }
+    ensures lives { AreWarned (map seen_live lives.old.items) (map seen_live lives.new.items) }
+    ensures waiting { (ps : List ℕ) × (waiting.new ≡ record waiting.old { r = warned ps waiting.old.r }) }
+    ensures heard { may_be_poisoned polled waiting.old.r.cause ≡ true →
+        AreHeard (blocker polled) waiting.old.r waiting.new.r (map seen_live lives.old.items) }
+{
+    if may_be_poisoned(polled, waiting.cause()) {
+        hear_some(core, lives, waiting, blocker(polled));
+    }
+}
+
+// Whether the request in the way may have been found poisoned: where a poll finds it so and answers Blocked, the polled one is poisoned too.
+fn may_be_poisoned(polled: Polled, cause: Cause) -> bool
+    ensures { result ≡ may_be_poisoned polled cause }
+{
+    match polled {
+        Polled::Ready => false,
+        Polled::Blocked { by: _, place: _ } => !is_none(cause),
+        Polled::Poisoned { by: _, place: _ } => true,
+    }
+}
+
+// The number of the request that is in the way, or 0.
+fn blocker(polled: Polled) -> u64
+    ensures { result ≡ blocker polled }
+{
+    match polled {
+        Polled::Ready => 0,
+        Polled::Blocked { by, place: _ } | Polled::Poisoned { by, place: _ } => by,
+    }
+}
+
+// Hears each live request that has a cause, and the one of this number.
+fn hear_some(core: &Core, lives: &mut Vec<Live>, waiting: &mut Waiting, by: u64)
     requires lives { Each (IsLive (id_of core.now)) (map seen_live lives.old.items) }
     requires core { waiting.old.core ≡ id_of core.now }
     ensures lives { AreWarned (map seen_live lives.old.items) (map seen_live lives.new.items) }

@@ -1,10 +1,10 @@
 // Live names, and the values that stand for their requests.
-ghost use Rattle.std.specs.Prelude.{◌≡◌, ℕ, ◌<◌, length, map, Some, IfOk, IfSome, slice_get};
+ghost use Rattle.std.specs.Prelude.{◌≡◌, ℕ, ◌<◌, not, ◌||◌, length, map, Some, IfOk, IfSome, slice_get};
 ghost use Rattle.std.specs.List.{position};
 ghost use Rattle.script.specs.Commands.{same_name};
 ghost use Rattle.latch_model.specs.declared.history.Fault.TheVariants.{None as no_fault};
 ghost use Rattle.script.specs.Follows.{passed_grant};
-ghost use Rattle.step_run.specs.Lives.{IsOf, LiveSays, called_value, ending_of, is_none, may_poison, seen_live, with_value};
+ghost use Rattle.step_run.specs.Lives.{IsOf, LiveSays, called_value, cause_of, ending_of, is_none, may_poison, seen_live, with_value};
 ghost use Rattle.waiter.specs.Says.{id_of};
 
 use latch_model::history::{Cause, Fault};
@@ -96,11 +96,13 @@ pub(crate) fn take(lives: &mut Vec<Live>, i: usize) -> Value
     mem::replace(&mut *live.value, Value::Over)
 }
 
-/// Puts a value into the place of one that was taken out.
-pub(crate) fn put(lives: &mut Vec<Live>, i: usize, value: Value)
+/// Puts a value into the place of one that was taken out, and notes whether its request has a cause.
+pub(crate) fn put(lives: &mut Vec<Live>, some_cause: &mut bool, i: usize, value: Value)
     requires { (l : LiveSays) × (slice_get (map seen_live lives.old.items) i ≡ Some l) × (l.value ≡ Value.Over) }
-    ensures { map seen_live lives.new.items ≡ with_value i value (map seen_live lives.old.items) }
+    ensures lives { map seen_live lives.new.items ≡ with_value i value (map seen_live lives.old.items) }
+    ensures causes { some_cause.new ≡ (some_cause.old || not (is_none (cause_of value))) }
 {
+    *some_cause = *some_cause || !is_none(cause_of(&value));
     let live = &mut lives[i];
     no_value(mem::replace(&mut *live.value, value));
 }
@@ -156,6 +158,18 @@ fn check_ending(core: &Core, optimist: Optimist) -> Ending
         optimist.confirm(core).finish()
     } else {
         optimist.abandon(core)
+    }
+}
+
+/// The cause of a value's request.
+pub(crate) fn cause_of(value: &Value) -> Cause
+    ensures { result ≡ cause_of value.now }
+{
+    match value {
+        Value::Optimist(optimist) => optimist.cause(),
+        Value::Waiting(waiting) => waiting.cause(),
+        Value::Granted(granted) => granted.cause(),
+        Value::Over => Cause::None,
     }
 }
 

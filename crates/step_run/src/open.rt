@@ -129,7 +129,8 @@ fn begin(
 fn push<'s>(run: &mut StepRun<'s>, opening: Opening<'s>, value: Box<Value>)
     requires { vec_len run.old.lives < vec_capacity run.old.lives }
     ensures lives { (seen_run run.new).lives ≡ (seen_run run.old).lives ++ opening_of opening.entry value.value ∷ [] }
-    ensures others { (run.new.core ≡ run.old.core) × (run.new.desk ≡ run.old.desk) × (run.new.passes.items ≡ run.old.passes.items) }
+    ensures others { (run.new.core ≡ run.old.core) × (run.new.desk ≡ run.old.desk) × (run.new.passes.items ≡ run.old.passes.items)
+        × (run.new.some_cause ≡ run.old.some_cause) }
     ensures len { length run.new.lives.items ≡ length run.old.lives.items + 1 }
 {
     let live = Live {

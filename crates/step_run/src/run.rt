@@ -18,12 +18,14 @@ use span_key::Memory;
 use std::alloc::Global;
 use waiter::{Core, Ending};
 
-/// What the requests share, the desk, pass w - 1 of each session w, and the live names in the order of their opening.
+/// What the requests share, the desk, pass w - 1 of each session w, the live names in the order of their opening, and whether some live
+/// request may have a cause: where that is false, none has.
 pub(crate) struct StepRun<'s> {
     pub(crate) core: Core,
     pub(crate) desk: Desk,
     pub(crate) passes: Vec<Pass>,
     pub(crate) lives: Vec<Live<'s>>,
+    pub(crate) some_cause: bool,
 }
 
 /// A run without commands, on a desk of these sizes.
@@ -39,6 +41,7 @@ pub(crate) fn start<'s>(alloc: Global, sizes: Sizes) -> Result<StepRun<'s>, Memo
             desk,
             passes,
             lives: Vec::new(alloc),
+            some_cause: false,
         }),
         Err(NewFault::Memory) => Err(Memory),
         Err(NewFault::BadSizes { which: _ }) => unreachable!(),
@@ -93,6 +96,7 @@ pub(crate) fn close(run: StepRun) -> History
         desk,
         passes,
         lives,
+        some_cause: _,
     } = run;
     lives.destroy_empty();
     desk.close(core, passes)

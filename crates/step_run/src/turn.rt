@@ -6,8 +6,8 @@ ghost use Rattle.latch_model.specs.declared.history.Entry.TheVariants.{Ended};
 ghost use Rattle.latch_model.specs.declared.history.Grant.TheVariants.{Never, Waited};
 ghost use Rattle.latch_model.proofs.Elements.{Each};
 ghost use Rattle.script.specs.declared.limits.TheConstants.{SESSION_LIMIT};
-ghost use Rattle.step_run.specs.Asked.{Asked, LastIs, blocker};
-ghost use Rattle.step_run.specs.Lives.{AreWarned, IsLive, is_none};
+ghost use Rattle.step_run.specs.Asked.{Asked, LastIs};
+ghost use Rattle.step_run.specs.Lives.{AreWarned, HasNoCause, IsLive, is_none};
 ghost use Rattle.step_run.specs.Runs.{AskedBlocked, AskedPoisoned, AskedReady, FitsRequest, FitsTurns, HasCounted, IsLent, IsSame, Makes, Sound, Stands};
 ghost use Rattle.step_run.specs.Runs.{StandsBut};
 ghost use Rattle.step_run.specs.Seen.{seen_run};
@@ -16,7 +16,7 @@ ghost use Rattle.step_run.specs.Steps.{counted_turn, granted as granted_state, i
 ghost use Rattle.step_run.specs.Texts.{met_text, named_line, spread_text};
 ghost use Rattle.waiter.specs.Says.{Blocked, MayAbandon, Poisoned, Ready, WaitingSays, id_of};
 
-use crate::hear::hear_some;
+use crate::hear::{hear_blocker, hear_causes};
 use crate::lines::{number_line, polled_line, words_line};
 use crate::live::{Value, is_none, put};
 use crate::run::{StepRun, end};
@@ -54,7 +54,9 @@ pub(crate) fn turn(
 fn ask(run: &mut StepRun, waiting: &mut Waiting) -> Polled
     requires lives { Each (IsLive (id_of run.old.core)) (seen_run run.old).lives }
     requires core { (waiting.old.core ≡ id_of run.old.core) × (run.old.desk.core ≡ id_of run.old.core) }
-    ensures desk { (run.new.core ≡ run.old.core) × (run.new.desk ≡ run.old.desk) × (run.new.passes.items ≡ run.old.passes.items) }
+    requires causes { run.old.some_cause ≡ false → Each HasNoCause (seen_run run.old).lives }
+    ensures others { (run.new.core ≡ run.old.core) × (run.new.desk ≡ run.old.desk) × (run.new.passes.items ≡ run.old.passes.items)
+        × (run.new.some_cause ≡ run.old.some_cause) }
     ensures lives { AreWarned (seen_run run.old).lives (seen_run run.new).lives }
     ensures same { (waiting.new.core ≡ waiting.old.core) × (waiting.new.r.who ≡ waiting.old.r.who) }
     ensures last { LastIs waiting.new result }
@@ -62,21 +64,11 @@ fn ask(run: &mut StepRun, waiting: &mut Waiting) -> Polled
         FitsRequest s.history n waiting.old.r → Asked s n waiting.old waiting.new result }
 {
     run.desk.tell(&run.core, waiting);
-    hear_some(&run.core, &mut run.lives, waiting, 0);
+    hear_causes(&run.core, &mut run.lives, waiting, run.some_cause);
     let polled = waiting.poll(&run.core);
-    hear_some(&run.core, &mut run.lives, waiting, blocker(polled));
+    hear_blocker(&run.core, &mut run.lives, waiting, polled);
     run.desk.tell(&run.core, waiting);
     polled
-}
-
-// The number of the request that blocks, or 0.
-fn blocker(polled: Polled) -> u64
-    ensures { result ≡ blocker polled }
-{
-    match polled {
-        Polled::Ready => 0,
-        Polled::Blocked { by, place: _ } | Polled::Poisoned { by, place: _ } => by,
-    }
 }
 
 // Nothing is left to wait for.
@@ -135,7 +127,12 @@ fn settle(run: &mut StepRun, i: usize, granted: Granted)
 {
     match run.lives[i].mode {
         Mode::Look => end(run, granted.finish()),
-        Mode::Acquire | Mode::Optimistic => put(&mut run.lives, i, Value::Granted(granted)),
+        Mode::Acquire | Mode::Optimistic => put(
+            &mut run.lives,
+            &mut run.some_cause,
+            i,
+            Value::Granted(granted),
+        ),
     }
 }
 
@@ -196,7 +193,12 @@ fn block(
     match blocked_lines(run.lives[i].name, spreads, by, &waiting, out) {
         Ok(()) => spend(run, i, waiting, out),
         Err(refused) => {
-            put(&mut run.lives, i, Value::Waiting(waiting));
+            put(
+                &mut run.lives,
+                &mut run.some_cause,
+                i,
+                Value::Waiting(waiting),
+            );
             Err(refused)
         }
     }
@@ -248,7 +250,12 @@ fn spend(run: &mut StepRun, i: usize, waiting: Waiting, out: &mut Vec<u8>) -> Re
     match run.lives[i].turns {
         Some(turns) => count(run, i, turns, waiting, out),
         None => {
-            put(&mut run.lives, i, Value::Waiting(waiting));
+            put(
+                &mut run.lives,
+                &mut run.some_cause,
+                i,
+                Value::Waiting(waiting),
+            );
             Ok(())
         }
     }
@@ -273,7 +280,12 @@ fn count(
 {
     let polls = waiting.turns();
     if polls != u64::from(turns) {
-        put(&mut run.lives, i, Value::Waiting(waiting));
+        put(
+            &mut run.lives,
+            &mut run.some_cause,
+            i,
+            Value::Waiting(waiting),
+        );
         return Ok(());
     }
     let written = words_line(run.lives[i].name, b"cancelled", out);

@@ -5,7 +5,7 @@ use Rattle.step_run.specs.Seen.{seen_run}
 use Rattle.latch_model.specs.declared.latch.Latch.{Latch}
 use Rattle.waiter.specs.Says.{OptimistSays, id_of}
 use Rattle.step_run.specs.Checking.{ChecksAs}
-use Rattle.step_run.specs.Lives.{IsOf, is_held}
+use Rattle.step_run.specs.Lives.{IsOf, cause_of, is_held}
 use Rattle.step_run.specs.declared.live.Value.{Value}
 use Rattle.step_run.specs.declared.live.Value.TheVariants.{Optimist}
 use Rattle.step_run.proofs.Commanding.{makes_checked}
@@ -39,9 +39,10 @@ returns-clause-sound c =
     let of : IsOf (id_of c.args.run.now.core) x.session (Optimist o.0) =
     subst (λ (v : Value). IsOf (id_of c.args.run.now.core) x.session v) o.1
     (Each-at (IsLive (id_of c.args.run.now.core)) (seen_run c.args.run.now).lives c.args.i (seen_live x) at c.requires.sound.lives).of in
-    sound_value (seen_run c.args.run.now) c.args.i (seen_live x) c.check_value.new.value _ at (ap is_held p.1 ∙ sym (ap is_held o.1))
+    sound_value (seen_run c.args.run.now) c.args.i (seen_live x) c.check_value.new.value _ c.args.run.now.some_cause at (ap is_held p.1 ∙ sym (ap is_held o.1))
     (subst (λ (v : Value). IsOf (id_of c.args.run.now.core) x.session v) (sym p.1) (p.2 ∙ of.0, ap (λ r. r.who) p.3 ∙ of.1))
-    (set_value xs c.args.i x c.check_value.new.value c.index_mut-live.ensures.value) c.requires.sound
+    (set_value xs c.args.i x c.check_value.new.value c.index_mut-live.ensures.value)
+    (λ e. (e, λ f. ap cause_of p.1 ∙ ap (λ r. r.cause) p.3 ∙ sym (ap cause_of o.1) ∙ f)) c.requires.sound
 
 pub returns-clause-step : goal.returns-clause-step
 returns-clause-step c = λ s n h here.

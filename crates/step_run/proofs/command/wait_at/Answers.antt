@@ -9,7 +9,7 @@ use Rattle.step_run.specs.declared.live.Value.TheVariants.{Granted, Over}
 use Rattle.step_run.proofs.Commanding.{kept_over, kept_value, waits_none, waits_optimistic, waits_pending}
 use Rattle.step_run.proofs.Lives.{seen_there}
 use Rattle.step_run.proofs.Places.{Each-at}
-use Rattle.step_run.proofs.Sounding.{lent_take, of_optimist, of_waiting, sound_take}
+use Rattle.step_run.proofs.Sounding.{lent_take, of_optimist, of_waiting, sound_kept, sound_take}
 use Rattle.step_run.proofs.command.wait_at.Goals as goal
 
 pub put-requires : goal.put-requires
@@ -88,9 +88,9 @@ pub returns-in-Granted-clause-sound : goal.returns-in-Granted-clause-sound
 returns-in-Granted-clause-sound c =
     let w = seen_there c.args.run.now.lives.items c.args.i c.requires.inside in
     let r = seen_run c.args.run.now in
-    subst (λ (ls : List LiveSays). Sound 0 (record r { lives = ls }))
-    (sym (kept_value c.args.i (Granted c.in-Granted.granted) w.0 r.lives (map seen_live c.take.new.lives.items) (map seen_live c.put.new.lives.items) w.1
-    (c.in-Granted.ensures.value w.0 w.1) c.take.ensures.lives c.put.ensures)) c.requires.sound
+    sound_kept r (Granted c.in-Granted.granted) (map seen_live c.put.new.lives.items) c.put.new.some_cause
+    (kept_value c.args.i (Granted c.in-Granted.granted) w.0 r.lives (map seen_live c.take.new.lives.items) (map seen_live c.put.new.lives.items) w.1
+    (c.in-Granted.ensures.value w.0 w.1) c.take.ensures.lives c.put.ensures.lives) c.put.ensures.causes c.requires.sound
 
 pub returns-in-Granted-clause-step : goal.returns-in-Granted-clause-step
 returns-in-Granted-clause-step c = λ s n h here.
@@ -98,7 +98,7 @@ returns-in-Granted-clause-step c = λ s n h here.
     let r = seen_run c.args.run.now in
     waits_none c.args.i s r _ n w.0 (Granted c.in-Granted.granted) c.args.out.now.items h here w.1 (sym (c.in-Granted.ensures.value w.0 w.1)) refl refl
     (kept_value c.args.i (Granted c.in-Granted.granted) w.0 r.lives (map seen_live c.take.new.lives.items) (map seen_live c.put.new.lives.items) w.1
-    (c.in-Granted.ensures.value w.0 w.1) c.take.ensures.lives c.put.ensures)
+    (c.in-Granted.ensures.value w.0 w.1) c.take.ensures.lives c.put.ensures.lives)
 
 pub returns-in-Over-clause-sound : goal.returns-in-Over-clause-sound
 returns-in-Over-clause-sound c =

@@ -49,6 +49,7 @@ returns-in-Err-clause-refused c =
       log = d.log;
       passes = slice_set r.passes (c.args.session - 1) q;
       lives = r.lives;
+      some_cause = r.some_cause;
     })) (sym c.in-Err.ensures.same.0)
     (sound_passed r 0 0 c.args.session p q _ c.requires.session.0 at
     (ap (λ (y : PassSays). y.table) c.in-Err.ensures.same.2)
@@ -72,6 +73,7 @@ returns-after-mode-clause-lent c =
       log = d.log;
       passes = slice_set r.passes (c.args.session - 1) q;
       lives = r.lives;
+      some_cause = r.some_cause;
     })) (sym c.in-Ok.ensures.desk)
     (sound_passed r 0 c.args.session c.args.session p q _ c.requires.session.0 at
     (ap (λ (y : PassSays). y.table) c.in-Ok.ensures.pass)

@@ -8,7 +8,7 @@ use Rattle.sequence_core.specs.Says.{DeskState}
 use Rattle.step_run.specs.Openings.{opening_of}
 use Rattle.step_run.specs.Runs.{RunSays, Sound, Stands}
 use Rattle.step_run.specs.Seen.{seen_run}
-use Rattle.step_run.proofs.Opening.{begun_held, begun_of, opens_as, pushed_at, pushed_sound}
+use Rattle.step_run.proofs.Opening.{begun_held, begun_none, begun_of, opens_as, pushed_at, pushed_sound}
 use Rattle.step_run.proofs.Sounding.{no_open}
 use Rattle.step_run.proofs.open.open.Goals as goal
 
@@ -30,13 +30,15 @@ write_opening-requires-clause-sound c =
     let v = c.in_ok-value.value.value in
     let mid = c.begin_in.new.run in
     let same : mid.core ≡ c.args.run.now.core = c.in_ok-value.ensures.lives.1 in
-    pushed_sound mid c.push.new.run (opening_of o v) c.push.ensures.others.0 c.push.ensures.others.1 c.push.ensures.others.2 c.push.ensures.lives
+    pushed_sound mid c.push.new.run (opening_of o v) c.push.ensures.others.0 c.push.ensures.others.1 c.push.ensures.others.2
+    c.push.ensures.others.3 c.push.ensures.lives
     (record {
       low = c.requires.session.0;
       high = c.requires.session.1;
       of = subst (λ (k : Core). IsOf (id_of k) o.session v) (sym same)
           (begun_of core c.args.run.now.desk.log o.session o.mode c.args.request v c.in_ok-value.ensures.value);
     })
+    (begun_none core c.args.run.now.desk.log o.session o.mode c.args.request v c.in_ok-value.ensures.value)
     (begun_held core o.mode _ v c.in_ok-value.ensures.value).0 c.in_ok-value.ensures.lent
 
 pub write_opening-requires-clause-begun : goal.write_opening-requires-clause-begun
@@ -80,13 +82,15 @@ first_turn-requires-clause-sound c =
     let mid = c.begin_in.new.run in
     let same : mid.core ≡ c.args.run.now.core = c.in_ok-value.ensures.lives.1 in
     subst (λ (q : RunSays). Sound 0 q) (sym c.in_ok-write_opening.ensures.run)
-    (pushed_sound mid c.push.new.run (opening_of o v) c.push.ensures.others.0 c.push.ensures.others.1 c.push.ensures.others.2 c.push.ensures.lives
+    (pushed_sound mid c.push.new.run (opening_of o v) c.push.ensures.others.0 c.push.ensures.others.1 c.push.ensures.others.2
+    c.push.ensures.others.3 c.push.ensures.lives
     (record {
       low = c.requires.session.0;
       high = c.requires.session.1;
       of = subst (λ (k : Core). IsOf (id_of k) o.session v) (sym same)
           (begun_of core c.args.run.now.desk.log o.session o.mode c.args.request v c.in_ok-value.ensures.value);
     })
+    (begun_none core c.args.run.now.desk.log o.session o.mode c.args.request v c.in_ok-value.ensures.value)
     (begun_held core o.mode _ v c.in_ok-value.ensures.value).0 c.in_ok-value.ensures.lent)
 
 pub returns-in_err-write_opening-clause-sound : goal.returns-in_err-write_opening-clause-sound
@@ -97,11 +101,13 @@ returns-in_err-write_opening-clause-sound c =
     let mid = c.begin_in.new.run in
     let same : mid.core ≡ c.args.run.now.core = c.in_ok-value.ensures.lives.1 in
     subst (λ (q : RunSays). Sound 0 q) (sym c.write_opening.ensures.run)
-    (pushed_sound mid c.push.new.run (opening_of o v) c.push.ensures.others.0 c.push.ensures.others.1 c.push.ensures.others.2 c.push.ensures.lives
+    (pushed_sound mid c.push.new.run (opening_of o v) c.push.ensures.others.0 c.push.ensures.others.1 c.push.ensures.others.2
+    c.push.ensures.others.3 c.push.ensures.lives
     (record {
       low = c.requires.session.0;
       high = c.requires.session.1;
       of = subst (λ (k : Core). IsOf (id_of k) o.session v) (sym same)
           (begun_of core c.args.run.now.desk.log o.session o.mode c.args.request v c.in_ok-value.ensures.value);
     })
+    (begun_none core c.args.run.now.desk.log o.session o.mode c.args.request v c.in_ok-value.ensures.value)
     (begun_held core o.mode _ v c.in_ok-value.ensures.value).0 c.in_ok-value.ensures.lent)

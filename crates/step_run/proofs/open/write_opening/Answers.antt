@@ -4,13 +4,19 @@ use Rattle.waiter.specs.Says.{id_of}
 use Rattle.step_run.specs.Lives.{IsLive, IsOf, LiveSays, seen_live, with_value}
 use Rattle.step_run.specs.Runs.{RunSays}
 use Rattle.step_run.specs.Seen.{seen_run}
-use Rattle.step_run.specs.Openings.{opening_text}
+use Rattle.step_run.specs.Openings.{IsBegun, opening_text}
 use Rattle.step_run.specs.declared.live.Value.{Value}
 use Rattle.step_run.specs.Texts.{named_line}
 use Rattle.step_run.proofs.Commanding.{value_kept}
 use Rattle.step_run.proofs.Lives.{inside_seen, seen_at, seen_get, set_value}
 use Rattle.step_run.proofs.Places.{Each-at}
 use Rattle.step_run.proofs.open.write_opening.Goals as goal
+
+pub begun_line-requires-clause-begun : goal.begun_line-requires-clause-begun
+begun_line-requires-clause-begun c =
+    let begun = c.requires.begun in
+    let same = seen_at c.args.run.now.lives.items c.args.i c.index_mut-live.result.now begun.0 begun.1 c.index_mut-live.ensures.value in
+    subst (λ (v : Value). IsBegun v) (sym (c.deref_mut.ensures.value ∙ ap (λ (k : LiveSays). k.value) same)) begun.2
 
 pub begun_line-requires-clause-core : goal.begun_line-requires-clause-core
 begun_line-requires-clause-core c =

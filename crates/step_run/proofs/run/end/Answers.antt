@@ -43,6 +43,7 @@ returns-clause-sound c =
       log = d.log;
       passes = slice_set r.passes (c.who.result - 1) q;
       lives = r.lives;
+      some_cause = r.some_cause;
     })) (sym c.end.ensures.desk)
     (sound_passed r c.args.ending.r.who 0 c.who.result p q _ low at
     (ap (λ (y : PassSays). y.table) c.end.ensures.pass)

@@ -20,13 +20,13 @@ give_up-requires-clause-session c =
 
 pub returns-then-polls-from-clause-sound : goal.returns-then-polls-from-clause-sound
 returns-then-polls-from-clause-sound c =
-    sound_put (seen_run c.args.run.now) c.args.i c.args.waiting.r.who (Waiting c.args.waiting) (map seen_live c.put.new.lives.items) c.requires.lent refl
-    (c.requires.core, refl) c.put.ensures c.requires.sound
+    sound_put (seen_run c.args.run.now) c.args.i c.args.waiting.r.who (Waiting c.args.waiting) (map seen_live c.put.new.lives.items) c.put.new.some_cause
+    c.requires.lent refl (c.requires.core, refl) c.put.ensures.lives c.put.ensures.causes c.requires.sound
 
 pub returns-then-polls-from-clause-counted : goal.returns-then-polls-from-clause-counted
 returns-then-polls-from-clause-counted c = λ s n m h at o same p f e k.
     makes_counted c.args.i s (seen_run c.args.run.now) _ n m c.args.waiting c.args.turns c.args.out.now.items h at o same p f e k
-    (λ d. absurd (c.if-polls-from.true (omega (arith, c.turns-polls.ensures, d, c.from.ensures)))) refl c.put.ensures
+    (λ d. absurd (c.if-polls-from.true (omega (arith, c.turns-polls.ensures, d, c.from.ensures)))) refl c.put.ensures.lives
 
 pub returns-clause-counted : goal.returns-clause-counted
 returns-clause-counted c = λ s n m h at o same p f e k.

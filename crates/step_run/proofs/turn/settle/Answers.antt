@@ -44,8 +44,8 @@ returns-in-Look-clause-stands c = λ s n h at o f g.
 
 pub returns-in-Acquire-clause-sound : goal.returns-in-Acquire-clause-sound
 returns-in-Acquire-clause-sound c =
-    sound_put (seen_run c.args.run.now) c.args.i c.args.granted.r.who (GrantedValue c.args.granted) (map seen_live c.put.new.lives.items) c.requires.lent refl
-    (c.requires.core, refl) c.put.ensures c.requires.sound
+    sound_put (seen_run c.args.run.now) c.args.i c.args.granted.r.who (GrantedValue c.args.granted) (map seen_live c.put.new.lives.items) c.put.new.some_cause
+    c.requires.lent refl (c.requires.core, refl) c.put.ensures.lives c.put.ensures.causes c.requires.sound
 
 pub returns-in-Acquire-clause-stands : goal.returns-in-Acquire-clause-stands
 returns-in-Acquire-clause-stands c = λ s n h at o f g.
@@ -55,4 +55,4 @@ returns-in-Acquire-clause-stands c = λ s n h at o f g.
     let live = seen_at c.args.run.now.lives.items c.args.i x k.live k.at c.index.ensures in
     let mode : x.mode ≡ n.mode = ap (λ (l : LiveSays). l.mode) live ∙ (lent_name c.args.i c.args.granted.r.who s r n h at k).mode in
     granted_other s n _ n.mode (λ e. not_look x.mode c.in-Acquire.is (mode ∙ e))
-    (stands_granted c.args.i c.args.granted.r.who s r _ n c.args.granted h at o f g refl c.put.ensures)
+    (stands_granted c.args.i c.args.granted.r.who s r _ n c.args.granted h at o f g refl c.put.ensures.lives)

@@ -16,8 +16,8 @@ put-requires c = (c.requires.lent.live, c.requires.lent.at, c.requires.lent.over
 
 pub returns-in-None-clause-sound : goal.returns-in-None-clause-sound
 returns-in-None-clause-sound c =
-    sound_put (seen_run c.args.run.now) c.args.i c.args.waiting.r.who (Waiting c.args.waiting) (map seen_live c.put.new.lives.items) c.requires.lent refl
-    (c.requires.core, refl) c.put.ensures c.requires.sound
+    sound_put (seen_run c.args.run.now) c.args.i c.args.waiting.r.who (Waiting c.args.waiting) (map seen_live c.put.new.lives.items) c.put.new.some_cause
+    c.requires.lent refl (c.requires.core, refl) c.put.ensures.lives c.put.ensures.causes c.requires.sound
 
 pub returns-in-None-clause-spent : goal.returns-in-None-clause-spent
 returns-in-None-clause-spent c = λ s n m h at o same p f k.
@@ -26,7 +26,7 @@ returns-in-None-clause-spent c = λ s n m h at o same p f k.
     let lent = c.requires.lent in
     let live = seen_at c.args.run.now.lives.items c.args.i x lent.live lent.at c.index.ensures in
     let turns = same.turns ∙ sym (ap (λ (l : LiveSays). l.turns) live ∙ (lent_name c.args.i c.args.waiting.r.who s r n h at lent).turns) in
-    makes_uncounted c.args.i s r _ n m c.args.waiting c.args.out.now.items h at o same p f (turns ∙ c.in-None.is) refl c.put.ensures
+    makes_uncounted c.args.i s r _ n m c.args.waiting c.args.out.now.items h at o same p f (turns ∙ c.in-None.is) refl c.put.ensures.lives
 
 pub returns-in-Some-clause-spent : goal.returns-in-Some-clause-spent
 returns-in-Some-clause-spent c = λ s n m h at o same p f k.

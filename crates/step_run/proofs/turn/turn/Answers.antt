@@ -12,18 +12,18 @@ use Rattle.step_run.proofs.turn.turn.Goals.{After-ask}
 -- the run and the request after it has asked
 lent : (c : After-ask) → IsLent c.args.i c.ask.new.waiting.r.who (seen_run c.ask.new.run)
 lent c =
-    let d = c.ask.ensures.desk in
+    let d = c.ask.ensures.others in
     subst (λ w. IsLent c.args.i w (seen_run c.ask.new.run)) (sym c.ask.ensures.same.1)
-    (lent_moved c.args.i c.args.waiting.r.who c.args.run.now c.ask.new.run d.0 d.1 d.2 c.ask.ensures.lives c.requires.lent)
+    (lent_moved c.args.i c.args.waiting.r.who c.args.run.now c.ask.new.run d.0 d.1 d.2 d.3 c.ask.ensures.lives c.requires.lent)
 
 sound : (c : After-ask) → Sound c.ask.new.waiting.r.who (seen_run c.ask.new.run)
 sound c =
-    let d = c.ask.ensures.desk in
+    let d = c.ask.ensures.others in
     subst (λ w. Sound w (seen_run c.ask.new.run)) (sym c.ask.ensures.same.1)
-    (sound_moved c.args.waiting.r.who c.args.run.now c.ask.new.run d.0 d.1 d.2 c.ask.ensures.lives c.requires.sound)
+    (sound_moved c.args.waiting.r.who c.args.run.now c.ask.new.run d.0 d.1 d.2 d.3 c.ask.ensures.lives c.requires.sound)
 
 stands : (c : After-ask) (s : State) → StandsBut c.args.i s (seen_run c.args.run.now) → StandsBut c.args.i s (seen_run c.ask.new.run)
-stands c s h = let d = c.ask.ensures.desk in but_moved c.args.i s c.args.run.now c.ask.new.run d.0 d.1 d.2 c.ask.ensures.lives h
+stands c s h = let d = c.ask.ensures.others in but_moved c.args.i s c.args.run.now c.ask.new.run d.0 d.1 d.2 d.3 c.ask.ensures.lives h
 
 pub grant-requires-clause-lent : goal.grant-requires-clause-lent
 grant-requires-clause-lent c = lent (goal.at.grant-requires-clause-lent c).After-ask
