@@ -24,18 +24,23 @@ pub skip-add : (j k : ℕ) (bs : List ℕ) → skip k (skip j bs) ≡ skip (j + 
 skip-add zero k bs = ap (λ n. skip n bs) (let e : k ≡ 0 + k = omega arith in e)
 skip-add (suc j) k bs = skip-add j k (rest bs) ∙ ap (λ n. skip n bs) (let e : suc (j + k) ≡ suc j + k = omega arith in e)
 
+-- the first m bytes, and the k behind them
+number-join : (m k : ℕ) (bs : List ℕ) → number (m + k) bs ≡ number m bs * 256 ^ k + number k (skip m bs)
+number-join zero k bs = ap (λ n. number n bs) (let z : 0 + k ≡ k = omega arith in z) ∙ (let z : number k bs ≡ 0 * 256 ^ k + number k bs = omega arith in z)
+number-join (suc m) k bs =
+    let h = number-join m k (rest bs) in
+    let e : 256 ^ (m + k) ≡ 256 ^ m * 256 ^ k = pow-add 256 m k in
+    let a : number (suc (m + k)) bs ≡ byte bs * 256 ^ (m + k) + number (m + k) (rest bs) = refl in
+    ap (λ n. number n bs) (let z : suc m + k ≡ suc (m + k) = omega arith in z) ∙ a
+    ∙ (λ i. byte bs * e i + h i)
+    ∙ join (byte bs) (256 ^ m) (256 ^ k) (number m (rest bs)) (number k (skip m (rest bs)))
+  where
+    join : (b p q u v : ℕ) → b * (p * q) + (u * q + v) ≡ (b * p + u) * q + v
+    join b p q u v = grind arith
+
 -- one more byte
 pub number-more : (m : ℕ) (bs : List ℕ) → number (m + 1) bs ≡ number m bs * 256 + byte (skip m bs)
-number-more zero bs = omega arith
-number-more (suc m) bs =
-    let h = number-more m (rest bs) in
-    let e : 256 ^ suc m ≡ 256 ^ m * 256 = simp unary_clauses in
-    let a : number (suc (m + 1)) bs ≡ byte bs * 256 ^ (m + 1) + number (m + 1) (rest bs) = refl in
-    ap (λ n. number n bs) (let z : suc m + 1 ≡ suc (m + 1) = omega arith in z) ∙ a
-    ∙ (λ i. byte bs * 256 ^ (let z : m + 1 ≡ suc m = omega arith in z) i + h i)
-    ∙ ap (λ p. byte bs * p + (number m (rest bs) * 256 + byte (skip m (rest bs)))) e
-    ∙ (let z : byte bs * (256 ^ m * 256) + (number m (rest bs) * 256 + byte (skip m (rest bs))) ≡ (byte bs * 256 ^ m + number m (rest bs)) * 256 + byte
-    (skip m (rest bs)) = omega arith in z)
+number-more m bs = number-join m 1 bs ∙ omega arith
 
 pub power-low : (k : ℕ) → k < 8 → 256 ^ k ≤ 256 ^ 7
 power-low zero h = omega arith
@@ -167,19 +172,6 @@ pub past-end : (at : ℕ) (bs : List ℕ) → length bs ≤ at → number 8 (ski
 past-end at bs h = ap (number 8) (skip-none at bs h)
 
 -- ---- the last bytes of a key
-number-join : (m k : ℕ) (bs : List ℕ) → number (m + k) bs ≡ number m bs * 256 ^ k + number k (skip m bs)
-number-join zero k bs = ap (λ n. number n bs) (let z : 0 + k ≡ k = omega arith in z) ∙ (let z : number k bs ≡ 0 * 256 ^ k + number k bs = omega arith in z)
-number-join (suc m) k bs =
-    let h = number-join m k (rest bs) in
-    let e : 256 ^ (m + k) ≡ 256 ^ m * 256 ^ k = pow-add 256 m k in
-    let a : number (suc (m + k)) bs ≡ byte bs * 256 ^ (m + k) + number (m + k) (rest bs) = refl in
-    ap (λ n. number n bs) (let z : suc m + k ≡ suc (m + k) = omega arith in z) ∙ a
-    ∙ (λ i. byte bs * e i + h i)
-    ∙ join (byte bs) (256 ^ m) (256 ^ k) (number m (rest bs)) (number k (skip m (rest bs)))
-  where
-    join : (b p q u v : ℕ) → b * (p * q) + (u * q + v) ≡ (b * p + u) * q + v
-    join b p q u v = grind arith
-
 bits : (m : ℕ) → 2 ^ (8 * m) ≡ 256 ^ m
 bits zero = refl
 bits (suc m) = ap (λ n. 2 ^ n) (let z : 8 * suc m ≡ 8 + 8 * m = omega arith in z) ∙ pow-add 2 8 (8 * m)
