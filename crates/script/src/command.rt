@@ -3,6 +3,7 @@ ghost use Rattle.std.specs.Prelude.{◌≡◌, ◌≤◌, IsTrue, IfOk, length};
 ghost use Rattle.script.specs.Names as names;
 ghost use Rattle.script.specs.Scripts.{is_name};
 
+use crate::field::is_word;
 use crate::limits::COMMAND_LIMIT;
 use arrayvec::ArrayString;
 use latch_model::latch::{Latches, Mode, Policy};
@@ -30,6 +31,7 @@ impl Model for Name {
 }
 
 impl Name {
+    ghost use Rattle.script.specs.Commands.{same_name};
     ghost use Rattle.script.specs.Names.{packed};
     ghost use Rattle.script.specs.Scripts.{is_name};
 
@@ -71,6 +73,13 @@ impl Name {
         ensures spelled { IsTrue (is_name self.now) }
     {
         packed(self.text.as_bytes())
+    }
+
+    /// Whether the names are equal.
+    pub fn is(&self, other: &Name) -> bool
+        ensures { result ≡ same_name self.now other.now }
+    {
+        is_word(self.text.as_bytes(), other.text.as_bytes())
     }
 
     pub fn as_str(&self) -> &str

@@ -23,11 +23,21 @@ use latch_model::latch::{Access, Latch, Policy};
 use span_key::{Key, Memory, Span};
 use std::alloc::Global;
 
-/// Whether a text is this word.
+/// Whether a text is this word. Both are short, and words of one length and names often differ at their ends: a plain loop from there is quickest.
 pub(crate) fn is_word(text: &[u8], word: &[u8]) -> bool
     ensures { result ≡ bytes_eq text.now word.now }
 {
-    text == word
+    if text.len() != word.len() {
+        return false;
+    }
+    let mut left = text.len();
+    while left > 0 {
+        left -= 1;
+        if text[left] != word[left] {
+            return false;
+        }
+    }
+    true
 }
 
 /// What stands before the first byte `c` of a text, and what stands behind it.
@@ -133,9 +143,9 @@ pub(crate) fn name(text: &[u8]) -> Result<Name, FieldFault>
 pub(crate) fn policy(text: &[u8]) -> Option<Policy>
     ensures { result ≡ policy_at text.now }
 {
-    if text == b"wait".as_slice() {
+    if is_word(text, b"wait") {
         Some(Policy::Wait)
-    } else if text == b"error".as_slice() {
+    } else if is_word(text, b"error") {
         Some(Policy::Error)
     } else {
         None

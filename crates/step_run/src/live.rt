@@ -79,7 +79,7 @@ pub(crate) fn live_place(lives: &[Live], name: &Name) -> Option<usize>
     ensures inside { IfSome result (λ i. i < length lives.now) }
 {
     for (i, live) in lives.iter().enumerate() {
-        if live.name.bytes() == name.bytes() {
+        if live.name.is(name) {
             return Some(i);
         }
     }

@@ -6,8 +6,8 @@ use Rattle.waiter.proofs.Firsts.{position_found, position_none}
 use Rattle.step_run.proofs.Places.{position_map}
 use Rattle.step_run.proofs.live.live_place.Goals as goal
 
-pub returns-then-eq-clause-place : goal.returns-then-eq-clause-place
-returns-then-eq-clause-place c =
+pub returns-then-is-clause-place : goal.returns-then-is-clause-place
+returns-then-is-clause-place c =
     let xs = c.args.lives.now in
     let name = c.args.name.now in
     let inside : c.loop-i.i < length xs = omega arith in
