@@ -14,7 +14,7 @@ use Rattle.signal_board.specs.Says.{PassSays}
 use Rattle.waiter.specs.Says.{CoreId, OptimistSays, WaitingSays}
 use Rattle.step_run.specs.Lives.{AreWarned, HasNoCause, IsLive, IsOf, LiveSays, cause_of, has_name, has_open, is_held, is_none, lent_by, warned_live}
 use Rattle.step_run.specs.Lives.{warned_value, with_value}
-use Rattle.step_run.specs.Runs.{IsLent, IsPass, RunSays, Sound}
+use Rattle.step_run.specs.Runs.{IsLent, IsPass, RunSays, Sound, given_back}
 use Rattle.step_run.specs.declared.live.Value.{Value}
 use Rattle.step_run.specs.declared.live.Value.TheVariants.{Optimist, Waiting, Granted, Over}
 use Rattle.step_run.proofs.Places.{Each-at, Each-remove}
@@ -120,11 +120,11 @@ none_valued (suc i) v [] e h = tt
 none_valued zero v (l ∷ ls) e h = (e, h.1)
 none_valued (suc i) v (l ∷ ls) e h = (h.0, none_valued i v ls e h.1)
 
-pub none_noted : (a b : Bool) (c : Cause) → b ≡ (a || not (is_none c)) → b ≡ false → (a ≡ false) × (c ≡ no_cause)
-none_noted true b c e f = absurd (cc)
-none_noted false b no_cause e f = (refl, refl)
-none_noted false b Called e f = absurd (cc)
-none_noted false b (From p) e f = absurd (cc)
+none_noted : (a : Bool) (c : Cause) → (a || not (is_none c)) ≡ false → (a ≡ false) × (c ≡ no_cause)
+none_noted true c e = absurd (cc)
+none_noted false no_cause e = (refl, refl)
+none_noted false Called e = absurd (cc)
+none_noted false (From p) e = absurd (cc)
 
 -- Other live names, of which each session without an open request had none before.
 with_lives : (r : RunSays) (old new : ℕ) (ls : List LiveSays) (some : Bool) →
@@ -171,27 +171,19 @@ lent_take r i l ls at e = record {
 clash : {a : Bool} → a ≡ true → a ≡ false → ⊥
 clash e f = cc
 
-pub sound_put : (r : RunSays) (i who : ℕ) (v : Value) (ls : List LiveSays) (some : Bool) → IsLent i who r → is_held v ≡ true → IsOf r.core who v →
-    ls ≡ with_value i v r.lives → some ≡ (r.some_cause || not (is_none (cause_of v))) → Sound who r → Sound 0 (record r { lives = ls; some_cause = some })
-sound_put r i who v ls some k held of e noted h =
-    with_lives r who 0 ls some
-    (λ j z d o. let free : has_open j (with_value i v r.lives) ≡ false = ap (λ (xs : List LiveSays). has_open j xs) (sym e) ∙ o in
-    let other : j ≢ who = λ g. clash (open_held j i v r.lives k.live k.at (k.session ∙ sym g) held) free in
+pub sound_put : (r t : RunSays) (i who : ℕ) (v : Value) → IsLent i who r → is_held v ≡ true → IsOf r.core who v → t ≡ given_back i v r → Sound who r →
+    Sound 0 t
+sound_put r t i who v k held of e h =
+    subst (λ (q : RunSays). Sound 0 q) (sym e)
+    (with_lives r who 0 (with_value i v r.lives) (given_back i v r).some_cause
+    (λ j z d free. let other : j ≢ who = λ g. clash (open_held j i v r.lives k.live k.at (k.session ∙ sym g) held) free in
     (other, sym (open_other j i v r.lives k.live k.at (λ g. other (sym g ∙ k.session))) ∙ free))
-    (subst (λ (xs : List LiveSays). Each (IsLive r.core) xs) (sym e) (lives_valued r.core i v r.lives
-    (λ l g. subst (λ w. IsOf r.core w v) (sym k.session ∙ ap (λ (y : LiveSays). y.session) (one_only k.at g)) of) h.lives))
-    (λ g. let w = none_noted r.some_cause some (cause_of v) noted g in
-    subst (λ (xs : List LiveSays). Each HasNoCause xs) (sym e) (none_valued i v r.lives w.1 (h.causes w.0))) h
+    (lives_valued r.core i v r.lives
+    (λ l g. subst (λ w. IsOf r.core w v) (sym k.session ∙ ap (λ (y : LiveSays). y.session) (one_only k.at g)) of) h.lives)
+    (λ g. let w = none_noted r.some_cause (cause_of v) g in none_valued i v r.lives w.1 (h.causes w.0)) h)
   where
     one_only : {a b : LiveSays} → slice_get r.lives i ≡ Some a → slice_get r.lives i ≡ Some b → a ≡ b
     one_only f g = cc
-
--- It is given back as it was.
-pub sound_kept : (r : RunSays) (v : Value) (ls : List LiveSays) (some : Bool) → ls ≡ r.lives → some ≡ (r.some_cause || not (is_none (cause_of v))) → Sound 0 r →
-    Sound 0 (record r { lives = ls; some_cause = some })
-sound_kept r v ls some e noted h =
-    subst (λ (xs : List LiveSays). Sound 0 (record r { lives = xs; some_cause = some })) (sym e)
-    (with_lives r 0 0 r.lives some (λ j z d o. (z, o)) h.lives (λ g. h.causes (none_noted r.some_cause some (cause_of v) noted g).0) h)
 
 -- The session of a name that is lent.
 pub lent_session : (r : RunSays) (i who : ℕ) (lent : ℕ) → IsLent i who r → Sound lent r → (1 ≤ who) × (who ≤ 64)

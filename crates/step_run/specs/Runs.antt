@@ -1,5 +1,5 @@
 -- What contracts see of a run, when it can go on and be closed, and when it stands at a state of the definition.
-use Rattle.std.specs.Prelude.{◌≡◌, ◌≢◌, ℕ, zero, suc, ◌+◌, ◌^◌, ◌<◌, ◌-◌, min, Bool, true, false, not, List, [], ◌∷◌, ◌++◌, length}
+use Rattle.std.specs.Prelude.{◌≡◌, ◌≢◌, ℕ, zero, suc, ◌+◌, ◌^◌, ◌<◌, ◌-◌, min, Bool, true, false, not, ◌||◌, List, [], ◌∷◌, ◌++◌, length}
 use Rattle.std.specs.Prelude.{Option, Some, None, slice_get}
 use Rattle.std.specs.List.{filter}
 use Rattle.latch_model.specs.Histories.{HeldLatch, has_ended, latches_of, met, shot}
@@ -17,7 +17,7 @@ use Rattle.waiter.specs.Says.{Blocked, CoreId, Poisoned, Ready, WaitingSays}
 use Rattle.step_run.specs.State.{Granted, Named, Optimistic, Over, Pending, Phase, State, is_poisoned_in}
 use Rattle.step_run.specs.Steps.{Step, spread_to}
 use Rattle.step_run.specs.Valid.{Valid}
-use Rattle.step_run.specs.Lives.{HasNoCause, IsLive, LiveSays, has_open}
+use Rattle.step_run.specs.Lives.{HasNoCause, IsLive, LiveSays, cause_of, has_open, is_none, with_value}
 use Rattle.step_run.specs.declared.live.Value.{Value}
 use Rattle.step_run.specs.declared.live.Value.TheVariants.{Optimist, Waiting, Granted as GrantedValue, Over as OverValue}
 
@@ -66,6 +66,10 @@ pub record IsLent (i who : ℕ) (r : RunSays) : Type 0 where
   pub at : slice_get r.lives i ≡ Some live
   pub over : live.value ≡ OverValue
   pub session : live.session ≡ who
+
+-- The run after a value is given back to its place: some live request may have a cause from then on, if its has one.
+abbrev pub given_back : ℕ → Value → RunSays → RunSays
+given_back i v r = record r { lives = with_value i v r.lives; some_cause = r.some_cause || not (is_none (cause_of v)) }
 
 -- Two lists of the same length whose elements go together, all but those at one place.
 abbrev pub Pairs : {X Y : Type 0} → (X → Y → Type 0) → List X → List Y → Type 0

@@ -12,9 +12,9 @@ ghost use Rattle.waiter.specs.Says.{OptimistSays, id_of};
 
 use crate::fault::RunFault;
 use crate::lines::{checked_line, metrics_line, number_line, words_line};
-use crate::live::{Live, Value, live_place, poison, put, take};
+use crate::live::{Live, Value, live_place, poison, take};
 use crate::open::{Opening, open};
-use crate::run::{StepRun, end_value};
+use crate::run::{StepRun, end_value, give_back};
 use crate::turn::turn;
 use latch_model::latch::{Latches, Policy};
 use latch_model::request::Request;
@@ -99,12 +99,7 @@ pub(crate) fn wait_at(run: &mut StepRun, i: usize, out: &mut Vec<u8>) -> Result<
         Value::Optimist(optimist) => turn(run, i, optimist.into_waiting(), out),
         Value::Waiting(waiting) => turn(run, i, waiting, out),
         Value::Granted(granted) => {
-            put(
-                &mut run.lives,
-                &mut run.some_cause,
-                i,
-                Value::Granted(granted),
-            );
+            give_back(run, i, Value::Granted(granted));
             Ok(())
         }
         Value::Over => Ok(()),

@@ -1,5 +1,5 @@
 // Live names, and the values that stand for their requests.
-ghost use Rattle.std.specs.Prelude.{◌≡◌, ℕ, ◌<◌, not, ◌||◌, length, map, Some, IfOk, IfSome, slice_get};
+ghost use Rattle.std.specs.Prelude.{◌≡◌, ℕ, ◌<◌, length, map, Some, IfOk, IfSome, slice_get};
 ghost use Rattle.std.specs.List.{position};
 ghost use Rattle.script.specs.Commands.{same_name};
 ghost use Rattle.latch_model.specs.declared.history.Fault.TheVariants.{None as no_fault};
@@ -96,13 +96,11 @@ pub(crate) fn take(lives: &mut Vec<Live>, i: usize) -> Value
     mem::replace(&mut *live.value, Value::Over)
 }
 
-/// Puts a value into the place of one that was taken out, and notes whether its request has a cause.
-pub(crate) fn put(lives: &mut Vec<Live>, some_cause: &mut bool, i: usize, value: Value)
+/// Puts a value into the place of one that was taken out.
+pub(crate) fn put(lives: &mut Vec<Live>, i: usize, value: Value)
     requires { (l : LiveSays) × (slice_get (map seen_live lives.old.items) i ≡ Some l) × (l.value ≡ Value.Over) }
-    ensures lives { map seen_live lives.new.items ≡ with_value i value (map seen_live lives.old.items) }
-    ensures causes { some_cause.new ≡ (some_cause.old || not (is_none (cause_of value))) }
+    ensures { map seen_live lives.new.items ≡ with_value i value (map seen_live lives.old.items) }
 {
-    *some_cause = *some_cause || !is_none(cause_of(&value));
     let live = &mut lives[i];
     no_value(mem::replace(&mut *live.value, value));
 }

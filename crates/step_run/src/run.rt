@@ -1,15 +1,15 @@
 // A run on a desk with a pass for each session, and its end.
-ghost use Rattle.std.specs.Prelude.{◌≡◌, ℕ, ◌≤◌, [], ◌∷◌, ◌++◌, IfOk, None};
+ghost use Rattle.std.specs.Prelude.{◌≡◌, ℕ, ◌≤◌, [], ◌∷◌, ◌++◌, IfOk, None, Some, slice_get};
 ghost use Rattle.script.specs.declared.limits.TheConstants.{SESSION_LIMIT};
 ghost use Rattle.sequence_core.specs.Bounds.{bad_size};
 ghost use Rattle.sequence_core.specs.Says.{end_entry};
-ghost use Rattle.step_run.specs.Lives.{IsOf, ended_with, lent_by};
-ghost use Rattle.step_run.specs.Runs.{HasProgramRoom, Sound, Stands};
+ghost use Rattle.step_run.specs.Lives.{IsOf, LiveSays, ended_with, lent_by};
+ghost use Rattle.step_run.specs.Runs.{HasProgramRoom, Sound, Stands, given_back};
 ghost use Rattle.step_run.specs.Seen.{seen_run};
 ghost use Rattle.step_run.specs.State.{start};
 ghost use Rattle.waiter.specs.Says.{id_of};
 
-use crate::live::{Live, Value, ending};
+use crate::live::{Live, Value, cause_of, ending, is_none, put};
 use latch_model::history::{History, Sizes};
 use sequence_core::desk::Desk;
 use sequence_core::fault::NewFault;
@@ -46,6 +46,15 @@ pub(crate) fn start<'s>(alloc: Global, sizes: Sizes) -> Result<StepRun<'s>, Memo
         Err(NewFault::Memory) => Err(Memory),
         Err(NewFault::BadSizes { which: _ }) => unreachable!(),
     }
+}
+
+/// Gives back a value that was lent, and notes whether its request has a cause.
+pub(crate) fn give_back(run: &mut StepRun, i: usize, value: Value)
+    requires { (l : LiveSays) × (slice_get (seen_run run.old).lives i ≡ Some l) × (l.value ≡ Value.Over) }
+    ensures { seen_run run.new ≡ given_back i value (seen_run run.old) }
+{
+    run.some_cause = run.some_cause || !is_none(cause_of(&value));
+    put(&mut run.lives, i, value);
 }
 
 /// Ends a request that was lent.

@@ -18,8 +18,8 @@ ghost use Rattle.waiter.specs.Says.{Blocked, MayAbandon, Poisoned, Ready, Waitin
 
 use crate::hear::{hear_blocker, hear_causes};
 use crate::lines::{number_line, polled_line, words_line};
-use crate::live::{Value, is_none, put};
-use crate::run::{StepRun, end};
+use crate::live::{Value, is_none};
+use crate::run::{StepRun, end, give_back};
 use latch_model::history::{Cause, Fault, Grant};
 use latch_model::latch::Mode;
 use script::command::Name;
@@ -127,12 +127,7 @@ fn settle(run: &mut StepRun, i: usize, granted: Granted)
 {
     match run.lives[i].mode {
         Mode::Look => end(run, granted.finish()),
-        Mode::Acquire | Mode::Optimistic => put(
-            &mut run.lives,
-            &mut run.some_cause,
-            i,
-            Value::Granted(granted),
-        ),
+        Mode::Acquire | Mode::Optimistic => give_back(run, i, Value::Granted(granted)),
     }
 }
 
@@ -193,12 +188,7 @@ fn block(
     match blocked_lines(run.lives[i].name, spreads, by, &waiting, out) {
         Ok(()) => spend(run, i, waiting, out),
         Err(refused) => {
-            put(
-                &mut run.lives,
-                &mut run.some_cause,
-                i,
-                Value::Waiting(waiting),
-            );
+            give_back(run, i, Value::Waiting(waiting));
             Err(refused)
         }
     }
@@ -250,12 +240,7 @@ fn spend(run: &mut StepRun, i: usize, waiting: Waiting, out: &mut Vec<u8>) -> Re
     match run.lives[i].turns {
         Some(turns) => count(run, i, turns, waiting, out),
         None => {
-            put(
-                &mut run.lives,
-                &mut run.some_cause,
-                i,
-                Value::Waiting(waiting),
-            );
+            give_back(run, i, Value::Waiting(waiting));
             Ok(())
         }
     }
@@ -280,12 +265,7 @@ fn count(
 {
     let polls = waiting.turns();
     if polls != u64::from(turns) {
-        put(
-            &mut run.lives,
-            &mut run.some_cause,
-            i,
-            Value::Waiting(waiting),
-        );
+        give_back(run, i, Value::Waiting(waiting));
         return Ok(());
     }
     let written = words_line(run.lives[i].name, b"cancelled", out);

@@ -1,7 +1,8 @@
 use Rattle.std.proofs.Common.{List, map, refl, sym, ap, ◌∙◌, subst}
 use Rattle.std.specs.Prelude.{OnOk}
-use Rattle.step_run.specs.Runs.{IsLent, Makes, Sound}
-use Rattle.step_run.specs.Lives.{IsLive, LiveSays, seen_live}
+use Rattle.step_run.specs.Runs.{IsLent, Makes, RunSays, Sound}
+use Rattle.step_run.specs.Lives.{IsLive, IsOf, LiveSays, seen_live}
+use Rattle.step_run.specs.declared.live.Value.{Value}
 use Rattle.step_run.specs.Seen.{seen_run}
 use Rattle.waiter.specs.Says.{WaitingSays, id_of}
 use Rattle.step_run.specs.Steps.{Step}
@@ -9,11 +10,11 @@ use Rattle.step_run.specs.declared.live.Value.TheVariants.{Granted, Over}
 use Rattle.step_run.proofs.Commanding.{kept_over, kept_value, waits_none, waits_optimistic, waits_pending}
 use Rattle.step_run.proofs.Lives.{seen_there}
 use Rattle.step_run.proofs.Places.{Each-at}
-use Rattle.step_run.proofs.Sounding.{lent_take, of_optimist, of_waiting, sound_kept, sound_take}
+use Rattle.step_run.proofs.Sounding.{lent_take, of_optimist, of_waiting, sound_put, sound_take}
 use Rattle.step_run.proofs.command.wait_at.Goals as goal
 
-pub put-requires : goal.put-requires
-put-requires c =
+pub give_back-requires : goal.give_back-requires
+give_back-requires c =
     let w = seen_there c.args.run.now.lives.items c.args.i c.requires.inside in
     let k = lent_take (seen_run c.args.run.now) c.args.i w.0 (map seen_live c.take.new.lives.items) w.1 c.take.ensures.lives in
     (k.live, k.at, k.over)
@@ -88,17 +89,24 @@ pub returns-in-Granted-clause-sound : goal.returns-in-Granted-clause-sound
 returns-in-Granted-clause-sound c =
     let w = seen_there c.args.run.now.lives.items c.args.i c.requires.inside in
     let r = seen_run c.args.run.now in
-    sound_kept r (Granted c.in-Granted.granted) (map seen_live c.put.new.lives.items) c.put.new.some_cause
-    (kept_value c.args.i (Granted c.in-Granted.granted) w.0 r.lives (map seen_live c.take.new.lives.items) (map seen_live c.put.new.lives.items) w.1
-    (c.in-Granted.ensures.value w.0 w.1) c.take.ensures.lives c.put.ensures.lives) c.put.ensures.causes c.requires.sound
+    let core = id_of c.args.run.now.core in
+    let taken = map seen_live c.take.new.lives.items in
+    let l = Each-at (IsLive core) r.lives c.args.i w.0 w.1 c.requires.sound.lives in
+    sound_put (record r { lives = taken }) (seen_run c.give_back.new.run) c.args.i w.0.session (Granted c.in-Granted.granted)
+    (lent_take r c.args.i w.0 taken w.1 c.take.ensures.lives) refl
+    (subst (λ (v : Value). IsOf core w.0.session v) (sym (c.in-Granted.ensures.value w.0 w.1)) l.of) c.give_back.ensures
+    (sound_take r c.args.i w.0 taken w.1 c.take.ensures.lives c.requires.sound)
 
 pub returns-in-Granted-clause-step : goal.returns-in-Granted-clause-step
 returns-in-Granted-clause-step c = λ s n h here.
     let w = seen_there c.args.run.now.lives.items c.args.i c.requires.inside in
     let r = seen_run c.args.run.now in
-    waits_none c.args.i s r _ n w.0 (Granted c.in-Granted.granted) c.args.out.now.items h here w.1 (sym (c.in-Granted.ensures.value w.0 w.1)) refl refl
-    (kept_value c.args.i (Granted c.in-Granted.granted) w.0 r.lives (map seen_live c.take.new.lives.items) (map seen_live c.put.new.lives.items) w.1
-    (c.in-Granted.ensures.value w.0 w.1) c.take.ensures.lives c.put.ensures.lives)
+    let new = seen_run c.give_back.new.run in
+    let v = Granted c.in-Granted.granted in
+    waits_none c.args.i s r new n w.0 v c.args.out.now.items h here w.1 (sym (c.in-Granted.ensures.value w.0 w.1)) refl
+    (ap (λ (q : RunSays). q.log) c.give_back.ensures)
+    (kept_value c.args.i v w.0 r.lives (map seen_live c.take.new.lives.items) new.lives w.1 (c.in-Granted.ensures.value w.0 w.1) c.take.ensures.lives
+    (ap (λ (q : RunSays). q.lives) c.give_back.ensures))
 
 pub returns-in-Over-clause-sound : goal.returns-in-Over-clause-sound
 returns-in-Over-clause-sound c =

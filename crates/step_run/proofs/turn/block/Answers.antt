@@ -1,6 +1,6 @@
-use Rattle.std.proofs.Common.{◌&&◌, not, map, refl, ap, ◌∙◌}
+use Rattle.std.proofs.Common.{◌&&◌, not, refl, ap, ◌∙◌}
 use Rattle.std.proofs.lemmas.Result.{on_ok_weaker}
-use Rattle.step_run.specs.Lives.{LiveSays, seen_live}
+use Rattle.step_run.specs.Lives.{LiveSays}
 use Rattle.step_run.specs.Seen.{seen_run}
 use Rattle.step_run.specs.State.{Named}
 use Rattle.latch_model.specs.Checks.{has_cause}
@@ -14,13 +14,13 @@ use Rattle.step_run.proofs.Sounding.{sound_put}
 use Rattle.step_run.proofs.Turning.{blocked_counted, lent_name, makes_blocked, pending_of, spread_counted, spread_same, spreads_now}
 use Rattle.step_run.proofs.turn.block.Goals as goal
 
-pub put-requires : goal.put-requires
-put-requires c = (c.requires.lent.live, c.requires.lent.at, c.requires.lent.over)
+pub give_back-requires : goal.give_back-requires
+give_back-requires c = (c.requires.lent.live, c.requires.lent.at, c.requires.lent.over)
 
 pub returns-in-Err-clause-sound : goal.returns-in-Err-clause-sound
 returns-in-Err-clause-sound c =
-    sound_put (seen_run c.args.run.now) c.args.i c.args.waiting.r.who (Waiting c.args.waiting) (map seen_live c.put.new.lives.items) c.put.new.some_cause
-    c.requires.lent refl (c.requires.core, refl) c.put.ensures.lives c.put.ensures.causes c.requires.sound
+    sound_put (seen_run c.args.run.now) (seen_run c.give_back.new.run) c.args.i c.args.waiting.r.who (Waiting c.args.waiting) c.requires.lent refl
+    (c.requires.core, refl) c.give_back.ensures c.requires.sound
 
 pub returns-in-Ok-clause-turn : goal.returns-in-Ok-clause-turn
 returns-in-Ok-clause-turn c = λ s n old h at p t had a.

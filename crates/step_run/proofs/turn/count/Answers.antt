@@ -1,6 +1,7 @@
 use Rattle.std.proofs.Common.{[], ◌∷◌, ◌++◌, map, refl, ap, ◌∙◌, arith}
 use Rattle.std.proofs.lemmas.Result.{on_ok_weaker}
 use Rattle.step_run.specs.Lives.{LiveSays, seen_live}
+use Rattle.step_run.specs.Runs.{RunSays}
 use Rattle.step_run.specs.Seen.{seen_run}
 use Rattle.latch_model.specs.declared.history.Fault.TheVariants.{Cancelled}
 use Rattle.latch_model.specs.declared.history.Entry.TheVariants.{Ended}
@@ -11,8 +12,8 @@ use Rattle.step_run.proofs.Sounding.{lent_session, sound_put}
 use Rattle.step_run.proofs.Turning.{lent_name, makes_cancelled, makes_counted}
 use Rattle.step_run.proofs.turn.count.Goals as goal
 
-pub put-requires : goal.put-requires
-put-requires c = (c.requires.lent.live, c.requires.lent.at, c.requires.lent.over)
+pub give_back-requires : goal.give_back-requires
+give_back-requires c = (c.requires.lent.live, c.requires.lent.at, c.requires.lent.over)
 
 pub give_up-requires-clause-session : goal.give_up-requires-clause-session
 give_up-requires-clause-session c =
@@ -20,13 +21,14 @@ give_up-requires-clause-session c =
 
 pub returns-then-polls-from-clause-sound : goal.returns-then-polls-from-clause-sound
 returns-then-polls-from-clause-sound c =
-    sound_put (seen_run c.args.run.now) c.args.i c.args.waiting.r.who (Waiting c.args.waiting) (map seen_live c.put.new.lives.items) c.put.new.some_cause
-    c.requires.lent refl (c.requires.core, refl) c.put.ensures.lives c.put.ensures.causes c.requires.sound
+    sound_put (seen_run c.args.run.now) (seen_run c.give_back.new.run) c.args.i c.args.waiting.r.who (Waiting c.args.waiting) c.requires.lent refl
+    (c.requires.core, refl) c.give_back.ensures c.requires.sound
 
 pub returns-then-polls-from-clause-counted : goal.returns-then-polls-from-clause-counted
 returns-then-polls-from-clause-counted c = λ s n m h at o same p f e k.
     makes_counted c.args.i s (seen_run c.args.run.now) _ n m c.args.waiting c.args.turns c.args.out.now.items h at o same p f e k
-    (λ d. absurd (c.if-polls-from.true (omega (arith, c.turns-polls.ensures, d, c.from.ensures)))) refl c.put.ensures.lives
+    (λ d. absurd (c.if-polls-from.true (omega (arith, c.turns-polls.ensures, d, c.from.ensures))))
+    (ap (λ (q : RunSays). q.log) c.give_back.ensures) (ap (λ (q : RunSays). q.lives) c.give_back.ensures)
 
 pub returns-clause-counted : goal.returns-clause-counted
 returns-clause-counted c = λ s n m h at o same p f e k.

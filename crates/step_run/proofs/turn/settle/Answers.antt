@@ -1,5 +1,5 @@
 use Rattle.std.proofs.Common.{◌≡◌, ◌≤◌, [], ◌∷◌, ◌++◌, length, map, refl, sym, ap, ◌∙◌, subst}
-use Rattle.step_run.specs.Runs.{Sound}
+use Rattle.step_run.specs.Runs.{RunSays, Sound}
 use Rattle.step_run.specs.Lives.{LiveSays, seen_live}
 use Rattle.step_run.specs.Seen.{seen_run}
 use Rattle.latch_model.specs.declared.history.Fault.TheVariants.{None as no_fault}
@@ -26,8 +26,8 @@ end-requires-clause-session c =
     let w = lent_session (seen_run c.args.run.now) c.args.i c.args.granted.r.who c.args.granted.r.who c.requires.lent c.requires.sound in
     subst (λ k. (1 ≤ k) × (k ≤ 64)) (sym (ap (λ (e : EndingSays). e.r.who) c.finish.ensures)) w
 
-pub put-requires : goal.put-requires
-put-requires c = (c.requires.lent.live, c.requires.lent.at, c.requires.lent.over)
+pub give_back-requires : goal.give_back-requires
+give_back-requires c = (c.requires.lent.live, c.requires.lent.at, c.requires.lent.over)
 
 pub returns-in-Look-clause-stands : goal.returns-in-Look-clause-stands
 returns-in-Look-clause-stands c = λ s n h at o f g.
@@ -44,8 +44,8 @@ returns-in-Look-clause-stands c = λ s n h at o f g.
 
 pub returns-in-Acquire-clause-sound : goal.returns-in-Acquire-clause-sound
 returns-in-Acquire-clause-sound c =
-    sound_put (seen_run c.args.run.now) c.args.i c.args.granted.r.who (GrantedValue c.args.granted) (map seen_live c.put.new.lives.items) c.put.new.some_cause
-    c.requires.lent refl (c.requires.core, refl) c.put.ensures.lives c.put.ensures.causes c.requires.sound
+    sound_put (seen_run c.args.run.now) (seen_run c.give_back.new.run) c.args.i c.args.granted.r.who (GrantedValue c.args.granted) c.requires.lent refl
+    (c.requires.core, refl) c.give_back.ensures c.requires.sound
 
 pub returns-in-Acquire-clause-stands : goal.returns-in-Acquire-clause-stands
 returns-in-Acquire-clause-stands c = λ s n h at o f g.
@@ -55,4 +55,5 @@ returns-in-Acquire-clause-stands c = λ s n h at o f g.
     let live = seen_at c.args.run.now.lives.items c.args.i x k.live k.at c.index.ensures in
     let mode : x.mode ≡ n.mode = ap (λ (l : LiveSays). l.mode) live ∙ (lent_name c.args.i c.args.granted.r.who s r n h at k).mode in
     granted_other s n _ n.mode (λ e. not_look x.mode c.in-Acquire.is (mode ∙ e))
-    (stands_granted c.args.i c.args.granted.r.who s r _ n c.args.granted h at o f g refl c.put.ensures.lives)
+    (stands_granted c.args.i c.args.granted.r.who s r _ n c.args.granted h at o f g
+    (ap (λ (q : RunSays). q.log) c.give_back.ensures) (ap (λ (q : RunSays). q.lives) c.give_back.ensures))

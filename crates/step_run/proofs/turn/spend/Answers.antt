@@ -1,7 +1,7 @@
-use Rattle.std.proofs.Common.{ℕ, map, refl, sym, ap, ◌∙◌, subst}
+use Rattle.std.proofs.Common.{ℕ, refl, sym, ap, ◌∙◌, subst}
 use Rattle.std.specs.Prelude.{OnOk}
-use Rattle.step_run.specs.Runs.{Makes}
-use Rattle.step_run.specs.Lives.{LiveSays, seen_live}
+use Rattle.step_run.specs.Runs.{Makes, RunSays}
+use Rattle.step_run.specs.Lives.{LiveSays}
 use Rattle.step_run.specs.Seen.{seen_run}
 use Rattle.step_run.specs.declared.live.Value.TheVariants.{Waiting}
 use Rattle.step_run.specs.Steps.{spent_turn}
@@ -11,13 +11,13 @@ use Rattle.step_run.proofs.Sounding.{sound_put}
 use Rattle.step_run.proofs.Turning.{lent_name, makes_uncounted}
 use Rattle.step_run.proofs.turn.spend.Goals as goal
 
-pub put-requires : goal.put-requires
-put-requires c = (c.requires.lent.live, c.requires.lent.at, c.requires.lent.over)
+pub give_back-requires : goal.give_back-requires
+give_back-requires c = (c.requires.lent.live, c.requires.lent.at, c.requires.lent.over)
 
 pub returns-in-None-clause-sound : goal.returns-in-None-clause-sound
 returns-in-None-clause-sound c =
-    sound_put (seen_run c.args.run.now) c.args.i c.args.waiting.r.who (Waiting c.args.waiting) (map seen_live c.put.new.lives.items) c.put.new.some_cause
-    c.requires.lent refl (c.requires.core, refl) c.put.ensures.lives c.put.ensures.causes c.requires.sound
+    sound_put (seen_run c.args.run.now) (seen_run c.give_back.new.run) c.args.i c.args.waiting.r.who (Waiting c.args.waiting) c.requires.lent refl
+    (c.requires.core, refl) c.give_back.ensures c.requires.sound
 
 pub returns-in-None-clause-spent : goal.returns-in-None-clause-spent
 returns-in-None-clause-spent c = λ s n m h at o same p f k.
@@ -26,7 +26,8 @@ returns-in-None-clause-spent c = λ s n m h at o same p f k.
     let lent = c.requires.lent in
     let live = seen_at c.args.run.now.lives.items c.args.i x lent.live lent.at c.index.ensures in
     let turns = same.turns ∙ sym (ap (λ (l : LiveSays). l.turns) live ∙ (lent_name c.args.i c.args.waiting.r.who s r n h at lent).turns) in
-    makes_uncounted c.args.i s r _ n m c.args.waiting c.args.out.now.items h at o same p f (turns ∙ c.in-None.is) refl c.put.ensures.lives
+    makes_uncounted c.args.i s r _ n m c.args.waiting c.args.out.now.items h at o same p f (turns ∙ c.in-None.is)
+    (ap (λ (q : RunSays). q.log) c.give_back.ensures) (ap (λ (q : RunSays). q.lives) c.give_back.ensures)
 
 pub returns-in-Some-clause-spent : goal.returns-in-Some-clause-spent
 returns-in-Some-clause-spent c = λ s n m h at o same p f k.
