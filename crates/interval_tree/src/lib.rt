@@ -7,9 +7,9 @@
 //!
 //! | What | Steps |
 //! |---|---|
-//! | a level of the way, where the child isn't full | 6 loads, 3 stores, a comparison of bounds, and at most 5 of items with a load of a link each |
+//! | a level of the way, where the child isn't full | 7 loads, 2 stores, 1 store more where the child was copied, a comparison of bounds, and at most 5 of items with a load of a link each |
 //! | the leaf, with m items behind the place | m + 4 loads, m + 2 stores, and the same comparisons |
-//! | splitting a full leaf; an inner node | 15 links move, 2 loads and 2 stores each, and 28 bounds are compared; 31 and 60. Links of the parent move by one |
+//! | splitting a full leaf; an inner node | 15 links move, 31 of an inner node, 2 loads and 2 stores each; of 28 items it takes 2 loads to see that they are single keys, and a comparison of bounds where they aren't; 32 bounds of children are compared. Links of the parent move by one |
 //! | copying a node of n items | for each of its links, n + 1 in a leaf and 2 n + 2 above, 2 loads, 1 add and 1 store; its empty links are not looked at |
 #![tactic(auto)]
 
