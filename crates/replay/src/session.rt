@@ -291,7 +291,7 @@ fn is_opening_of(opening: &Command, name: &Name) -> bool
     ensures { result ≡ opens name.now opening.now }
 {
     match opening {
-        Command::Begin { name: opened, .. } => opened.bytes() == name.bytes(),
+        Command::Begin { name: opened, .. } => opened.is(name),
         Command::Wait { .. } => false,
         Command::Check { .. } => false,
         Command::Poison { .. } => false,
