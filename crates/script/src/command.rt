@@ -3,10 +3,10 @@ ghost use Rattle.std.specs.Prelude.{◌≡◌, ◌≤◌, IsTrue, IfOk, length};
 ghost use Rattle.script.specs.Names as names;
 ghost use Rattle.script.specs.Scripts.{is_name};
 
-use crate::field::is_word;
 use crate::limits::COMMAND_LIMIT;
 use arrayvec::ArrayString;
 use latch_model::latch::{Latches, Mode, Policy};
+use latch_model::same_bytes;
 use span_key::Memory;
 use std::alloc::Global;
 use std::marker::Model;
@@ -79,7 +79,7 @@ impl Name {
     pub fn is(&self, other: &Name) -> bool
         ensures { result ≡ same_name self.now other.now }
     {
-        is_word(self.text.as_bytes(), other.text.as_bytes())
+        same_bytes(self.text.as_bytes(), other.text.as_bytes())
     }
 
     pub fn as_str(&self) -> &str

@@ -20,24 +20,15 @@ use crate::limits::KEY_LIMIT;
 use hex::FromHexError;
 use hlc_stamp::Stamp;
 use latch_model::latch::{Access, Latch, Policy};
+use latch_model::same_bytes;
 use span_key::{Key, Memory, Span};
 use std::alloc::Global;
 
-/// Whether a text is this word. Both are short, and words of one length and names often differ at their ends: a plain loop from there is quickest.
+/// Whether a text is this word.
 pub(crate) fn is_word(text: &[u8], word: &[u8]) -> bool
     ensures { result ≡ bytes_eq text.now word.now }
 {
-    if text.len() != word.len() {
-        return false;
-    }
-    let mut left = text.len();
-    while left > 0 {
-        left -= 1;
-        if text[left] != word[left] {
-            return false;
-        }
-    }
-    true
+    same_bytes(text, word)
 }
 
 /// What stands before the first byte `c` of a text, and what stands behind it.
