@@ -1,5 +1,5 @@
 // The commands of a session, one after another.
-ghost use Rattle.std.specs.Prelude.{◌≡◌, ◌≢◌, ℕ, ◌+◌, ◌<◌, ◌≤◌, ◌^◌, [], ◌∷◌, ◌++◌, List, Option, Some, length, slice_get, IfErr, IfOk, OnOk, OnErr};
+ghost use Rattle.std.specs.Prelude.{◌≡◌, ◌≢◌, ℕ, ◌+◌, ◌<◌, ◌≤◌, ◌^◌, [], ◌∷◌, ◌++◌, true, List, Option, Some, length, slice_get, IfErr, IfOk, OnOk, OnErr};
 ghost use Rattle.latch_model.specs.declared.latch.TheConstants.Latches.{LIMIT};
 ghost use Rattle.script.specs.Follows.{Block, Follows, blocks_of, is_of};
 ghost use Rattle.replay.specs.Blocks.{new_block};
@@ -12,6 +12,7 @@ ghost use Rattle.replay.specs.Running.{turns_at, turns_of};
 ghost use Rattle.step_run.specs.Faults.{OpeningLacks, ScriptLacks, StopsBy};
 ghost use Rattle.step_run.specs.Runs.{HasProgramRoom};
 ghost use Rattle.script.specs.Commands.{opens};
+ghost use Rattle.script.specs.declared.command.Command.{Command as AnyCommand};
 ghost use Rattle.replay.specs.Sessions.{HandGiven, Standing};
 ghost use Rattle.replay.specs.declared.hand.Hand.{Hand as IsHand};
 ghost use Rattle.replay.specs.declared.hand.Hand.TheVariants.{Idle};
@@ -209,20 +210,23 @@ fn run_commands<N: Making, G: Gate, R: Wait>(
     let mut hand = Hand::Idle;
     let mut live = None;
     for i in 0..commands.len() {
-        match pass_or_run(rt, alloc, commands, manager, pass, gate, who, hand, live, i) {
-            Ok((next, now)) => {
-                hand = next;
-                live = now;
+        // What is in hand is large, so it is not handed on at the commands of others.
+        if is_own(commands, live, who, &commands[i]) {
+            match run_own(rt, alloc, commands, manager, pass, gate, who, hand, live, i) {
+                Ok((next, now)) => {
+                    hand = next;
+                    live = now;
+                }
+                Err(fault) => return Err(fault),
             }
-            Err(fault) => return Err(fault),
         }
     }
     release(rt, manager, pass, hand);
     Ok(())
 }
 
-// Command number i, if it is one of the session. What is in hand then, and the place of the opening of the live name.
-fn pass_or_run<N: Making, G: Gate, R: Wait>(
+// Command number i, which is one of the session. What is in hand then, and the place of the opening of the live name.
+fn run_own<N: Making, G: Gate, R: Wait>(
     rt: &R,
     alloc: Global,
     commands: &[Command],
@@ -239,15 +243,13 @@ fn pass_or_run<N: Making, G: Gate, R: Wait>(
     requires inside { i < length commands.now }
     requires sizes { HasProgramRoom N.made.sizes }
     requires at { IsAt commands.now N.made.core who i pass.old live hand }
+    requires own { (d : AnyCommand) → slice_get commands.now i ≡ Some d → is_own commands.now live who d ≡ true }
     ensures keeps { Keeps pass.old pass.new }
     ensures at { IfOk result (λ next. IsAt commands.now N.made.core who (i + 1) pass.new next.1 next.0) }
     ensures ended { OnErr result (open_count pass.new.p.mine ≡ 0) }
     ensures stops { IfErr result (StopsBy (ScriptLacks commands.now)) }
 {
     let command = &commands[i];
-    if !is_own(commands, live, who, command) {
-        return Ok((hand, live));
-    }
     let line = i as u32 + 2;
     let turns = turns_of(commands, live);
     gate.before(rt, line);

@@ -1,20 +1,10 @@
 use Rattle.std.proofs.Common.{ℕ, ◌+◌, Option, refl, sym, ◌∙◌, subst}
 use Rattle.std.proofs.lemmas.Option.{slice_get_read}
 use Rattle.replay.specs.Running.{IsAt, Ran, SomeTurns}
-use Rattle.replay.proofs.Commands.{at-other, at-own}
+use Rattle.replay.proofs.Commands.{at-own}
 use Rattle.replay.proofs.Owning.{own-is, some-turns}
 use Rattle.step_run.proofs.Stopping.{script_stops}
-use Rattle.replay.proofs.session.pass_or_run.Goals as goal
-
-pub returns-then-not-is_own-clause-at : goal.returns-then-not-is_own-clause-at
-returns-then-not-is_own-clause-at g c =
-    at-other c.args.commands.now c.requires.script g.N.Making.made.core c.args.who c.args.i c.args.pass.now c.args.live c.args.hand
-    c.index-commands-i.result (slice_get_read c.args.commands.now _ c.args.i c.index-commands-i.result refl c.requires.inside c.index-commands-i.is)
-    (sym (own-is c.args.commands.now c.requires.script c.args.i c.args.who c.index-commands-i.result
-    (slice_get_read c.args.commands.now _ c.args.i c.index-commands-i.result refl c.requires.inside c.index-commands-i.is) g.N.Making.made.core
-    c.args.pass.now c.args.live c.args.hand c.requires.at)
-    ∙ (sym c.is_own.ensures ∙ c.if-not-is_own.true))
-    c.requires.at
+use Rattle.replay.proofs.session.run_own.Goals as goal
 
 pub run_command-ran-requires-clause-turns : goal.run_command-ran-requires-clause-turns
 run_command-ran-requires-clause-turns g c =
@@ -31,7 +21,8 @@ returns-in-Ok-clause-at g c =
     (sym (own-is c.args.commands.now c.requires.script c.args.i c.args.who c.index-commands-i.result
     (slice_get_read c.args.commands.now _ c.args.i c.index-commands-i.result refl c.requires.inside c.index-commands-i.is) g.N.Making.made.core
     c.args.pass.now c.args.live c.args.hand c.requires.at)
-    ∙ (sym c.is_own.ensures ∙ c.if-not-is_own.false))
+    ∙ c.requires.own c.index-commands-i.result
+    (slice_get_read c.args.commands.now _ c.args.i c.index-commands-i.result refl c.requires.inside c.index-commands-i.is))
     (subst
     (λ (t : Option ℕ). Ran g.N.Making.made.core (c.args.i + 2) t c.index-commands-i.result c.args.pass.now c.args.hand
     c.run_command-ran.new.pass c.in-Ok.next)
