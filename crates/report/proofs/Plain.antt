@@ -1,15 +1,13 @@
 -- Texts that need no escape.
-use Rattle.std.proofs.Common.{◌≡◌, ℕ, ◌^◌, ◌<◌, Bool, true, false, not, ◌||◌, List, [], ◌∷◌, ◌++◌, bytes_eq, codes, decimal, refl, ap, sym, subst}
-use Rattle.std.proofs.Common.{◌∙◌, inl, inr, arith, rules}
+use Rattle.std.proofs.Common.{◌≡◌, ℕ, ◌^◌, ◌<◌, Bool, true, not, ◌||◌, List, [], ◌∷◌, ◌++◌, bytes_eq, codes, decimal, refl, ap}
+use Rattle.std.proofs.Common.{◌∙◌, inl, inr, arith}
 use Rattle.std.proofs.lemmas.Bool.{agree_below_at, not-true, or_cases}
 use Rattle.std.proofs.lemmas.Bool.Decides.{nat_tests}
 use Rattle.std.proofs.lemmas.Slice.Eq.{bytes_eq-Decides}
 use Rattle.std.proofs.lemmas.Str.{IsUtf8-from_ascii}
 use Rattle.std.proofs.lemmas.Str.Ascii.{IsAscii-nil, IsAscii-cons}
 use Rattle.std.specs.Char.{is_ascii_digit}
-use Rattle.std.specs.List.{list_all}
 use Rattle.std.specs.Str.{IsAscii, IsUtf8}
-use Rattle.json.specs.Print as json
 use Rattle.json.specs.Print.{escape, escape_byte}
 use Rattle.span_key.specs.Spans.{IsSpan, Pair}
 use Rattle.latch_model.specs.declared.latch.Access.{Access}
@@ -19,12 +17,9 @@ use Rattle.latch_model.specs.declared.latch.Mode.{Mode}
 use Rattle.latch_model.specs.declared.latch.Mode.TheVariants.{Acquire, Optimistic, Look}
 use Rattle.latch_model.specs.declared.latch.Policy.{Policy}
 use Rattle.latch_model.specs.declared.latch.Policy.TheVariants.{Wait as policy_wait, Error}
-use Rattle.latch_model.specs.declared.history.Cause.{Cause}
-use Rattle.latch_model.specs.declared.history.Cause.TheVariants.{None as no_cause, Called, From}
-use Rattle.latch_model.specs.declared.history.Fault.{Fault}
-use Rattle.latch_model.specs.declared.history.Fault.TheVariants.{None as no_fault, Poisoned, Cancelled}
-use Rattle.latch_model.specs.declared.history.Grant.{Grant}
-use Rattle.latch_model.specs.declared.history.Grant.TheVariants.{Never, Waited, Checked}
+use Rattle.latch_model.specs.declared.history.Cause.TheVariants.{From}
+use Rattle.latch_model.specs.declared.history.Fault.TheVariants.{Poisoned, Cancelled}
+use Rattle.latch_model.specs.declared.history.Grant.TheVariants.{Waited}
 use Rattle.hex.specs.Hex.{encode_lower}
 use Rattle.script.specs.Commands.{mode_text, policy_text}
 use Rattle.script.specs.Fields.{is_hex}

@@ -5,7 +5,7 @@ use Rattle.json.specs.Print as json
 use Rattle.serde_json.specs.Data.{Data, array, object, number, unsigned, Members, no_members, member}
 use Rattle.serde_json.specs.View.{items_view, view}
 use Rattle.serde_json.specs.declared.value.Value.{Value}
-use Rattle.serde_json.specs.Written.{compact_text, has_float, items_have_float, items_text, members_have_float, members_text}
+use Rattle.serde_json.specs.Written.{compact_text, items_have_float, items_text, members_have_float, members_text}
 use Rattle.latch_model.specs.Declaration.{Declaration}
 use Rattle.latch_model.specs.declared.latch.Latch.{Latch}
 use Rattle.latch_model.specs.declared.latch.Mode.{Mode}

@@ -1,4 +1,4 @@
-use Rattle.std.proofs.Common.{◌≡◌, ◌∙◌, ap}
+use Rattle.std.proofs.Common.{◌∙◌, ap}
 use Rattle.script.specs.Commands.{policy_text}
 use Rattle.report.proofs.Parts.{begin_written}
 use Rattle.report.proofs.lines.push_begin.Goals as goal

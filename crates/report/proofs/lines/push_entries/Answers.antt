@@ -1,4 +1,4 @@
-use Rattle.std.proofs.Common.{◌≡◌, ◌∙◌, ◌∷◌, ◌+◌, ap, drop, map, sym}
+use Rattle.std.proofs.Common.{◌∙◌, ◌+◌, ap, drop, map}
 use Rattle.latch_model.specs.Histories.{Begin, before, begins}
 use Rattle.report.specs.Reports.{entry_line}
 use Rattle.report.proofs.Further.{drop_next, written_next}

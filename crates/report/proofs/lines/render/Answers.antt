@@ -1,4 +1,4 @@
-use Rattle.std.proofs.Common.{◌≡◌, ◌∙◌, ◌++◌, List, ℕ, ap}
+use Rattle.std.proofs.Common.{◌∙◌, ◌++◌, List, ℕ, ap}
 use Rattle.latch_model.specs.Recorded.{Recorded}
 use Rattle.report.specs.Reports.{report_text}
 use Rattle.report.proofs.lines.render.Goals as goal

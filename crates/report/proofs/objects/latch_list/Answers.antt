@@ -1,4 +1,4 @@
-use Rattle.std.proofs.Common.{◌≡◌, ◌∙◌, ap}
+use Rattle.std.proofs.Common.{◌∙◌, ap}
 use Rattle.script.specs.Texts.{latch_text}
 use Rattle.report.specs.Json.{quoted}
 use Rattle.report.specs.Plain.{shown}

@@ -1,6 +1,3 @@
-use Rattle.std.proofs.Common.{◌≡◌}
-use Rattle.std.specs.List.{list_all}
-use Rattle.report.specs.Plain.{is_plain}
 use Rattle.report.proofs.Plain.{plain_latch}
 use Rattle.report.proofs.objects.latch_value.Goals as goal
 

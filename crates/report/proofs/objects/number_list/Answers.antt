@@ -1,4 +1,4 @@
-use Rattle.std.proofs.Common.{◌≡◌, ◌∙◌, ap, decimal}
+use Rattle.std.proofs.Common.{◌∙◌, ap, decimal}
 use Rattle.report.specs.Plain.{shown}
 use Rattle.report.proofs.Values.{list_shown}
 use Rattle.report.proofs.objects.number_list.Goals as goal

@@ -1,4 +1,4 @@
-use Rattle.std.proofs.Common.{◌≡◌, ◌∙◌, Global, Vec, ℕ, ap}
+use Rattle.std.proofs.Common.{◌∙◌, Global, Vec, ℕ, ap}
 use Rattle.serde_json.specs.Data.{string}
 use Rattle.report.specs.Plain.{shown}
 use Rattle.report.proofs.Plain.{plain_shown, plain_utf8}

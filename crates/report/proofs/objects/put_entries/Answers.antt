@@ -1,4 +1,4 @@
-use Rattle.std.proofs.Common.{◌≡◌, ◌∙◌, ◌∷◌, ◌+◌, ap, drop, map, sym}
+use Rattle.std.proofs.Common.{◌∙◌, ◌+◌, ap, drop, map}
 use Rattle.latch_model.specs.Histories.{Begin, before, begins}
 use Rattle.report.specs.Json.{entry_json}
 use Rattle.report.proofs.Further.{drop_next, joined_next, passed_next}

@@ -1,4 +1,4 @@
-use Rattle.std.proofs.Common.{◌≡◌, ◌∙◌, ap}
+use Rattle.std.proofs.Common.{◌∙◌, ap}
 use Rattle.report.specs.Json.{summary_json}
 use Rattle.report.specs.Plain.{shown}
 use Rattle.report.proofs.Values.{report_written, summary_shown}

@@ -1,4 +1,4 @@
-use Rattle.std.proofs.Common.{◌≡◌, ◌∙◌, ◌++◌, List, ℕ, ap}
+use Rattle.std.proofs.Common.{◌∙◌, ◌++◌, List, ℕ, ap}
 use Rattle.latch_model.specs.Recorded.{Recorded}
 use Rattle.report.specs.Json.{report_json}
 use Rattle.report.proofs.objects.render_json.Goals as goal
