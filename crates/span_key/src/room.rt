@@ -1,5 +1,5 @@
 // A span that can be filled again and again without memory.
-ghost use Rattle.std.specs.Prelude.{◌≡◌, ◌≢◌, ◌≤◌, [], length, MatchOption, OnOk, IfOk, vec_capacity};
+ghost use Rattle.std.specs.Prelude.{◌≡◌, ◌≢◌, ◌≤◌, ◌+◌, ◌++◌, [], length, MatchOption, OnOk, IfOk, vec_capacity};
 
 use crate::keys::{Key, Memory};
 use std::alloc::Global;
@@ -8,20 +8,23 @@ use std::marker::Model;
 /// A span with room for the bytes of any span.
 #[derive(Debug, Drop)]
 pub struct SpanRoom {
-    key: Vec<u8>,
-    // Empty for a single key.
-    end: Vec<u8>,
+    // The bytes of the first key, and behind them those of the end. A single key has no end.
+    bytes: Vec<u8>,
+    // How many of them are the key's.
+    key: usize,
 }
 
 impl Model for SpanRoom {
-    ghost use Rattle.std.specs.Prelude.{◌≤◌, vec_capacity};
+    ghost use Rattle.std.specs.Prelude.{◌≤◌, ◌+◌, length, vec_capacity};
+    ghost use Rattle.std.proofs.Math.ListN.{take, drop};
     ghost use Rattle.span_key.specs.Spans.{Pair, IsSpan, key_limit};
 
     ghost Value = { Pair };
 
-    ghost view = { λ r. (r.key.items, r.end.items) };
+    ghost view = { λ r. (take r.key r.bytes.items, drop r.key r.bytes.items) };
 
-    ghost invariant = { λ r. IsSpan (r.key.items, r.end.items) × (key_limit ≤ vec_capacity r.key) × (key_limit ≤ vec_capacity r.end) };
+    ghost invariant = { λ r. IsSpan (take r.key r.bytes.items, drop r.key r.bytes.items) × (r.key ≤ length r.bytes.items)
+        × (key_limit + key_limit ≤ vec_capacity r.bytes) };
 }
 
 impl SpanRoom {
@@ -32,8 +35,8 @@ impl SpanRoom {
         ensures empty { IfOk result (λ r. r ≡ ([], [])) }
     {
         Ok(SpanRoom {
-            key: Vec::with_capacity(alloc, Key::LIMIT)?,
-            end: Vec::with_capacity(alloc, Key::LIMIT)?,
+            bytes: Vec::with_capacity(alloc, 2 * Key::LIMIT)?,
+            key: 0,
         })
     }
 
@@ -44,8 +47,10 @@ impl SpanRoom {
         requires ordered { end.now ≢ [] → KeyLess key.now end.now }
         ensures pair { self.new ≡ (key.now, end.now) }
     {
-        replace(&mut self.key, key);
-        replace(&mut self.end, end);
+        self.bytes.clear();
+        append(&mut self.bytes, key);
+        append(&mut self.bytes, end);
+        self.key = key.len();
     }
 
     /// The bytes of the first key.
@@ -53,7 +58,7 @@ impl SpanRoom {
         ensures key { result.now ≡ self.now.0 }
         ensures valid { IsSpan self.now }
     {
-        self.key.as_slice()
+        &self.bytes[..self.key]
     }
 
     /// The bytes of the end, which is excluded.
@@ -61,21 +66,20 @@ impl SpanRoom {
         ensures end { MatchOption result (self.now.1 ≡ []) (λ end. (end.now ≡ self.now.1) × (self.now.1 ≢ [])) }
         ensures valid { IsSpan self.now }
     {
-        if self.end.is_empty() {
+        if self.key == self.bytes.len() {
             None
         } else {
-            Some(self.end.as_slice())
+            Some(&self.bytes[self.key..])
         }
     }
 }
 
-// Puts other bytes into the room of a vector.
-fn replace(room: &mut Vec<u8>, bytes: &[u8])
-    requires { length bytes.now ≤ vec_capacity room.old }
-    ensures items { room.new.items ≡ bytes.now }
+// Puts bytes behind those of a vector that has room for them.
+fn append(room: &mut Vec<u8>, bytes: &[u8])
+    requires { length room.old.items + length bytes.now ≤ vec_capacity room.old }
+    ensures items { room.new.items ≡ room.old.items ++ bytes.now }
     ensures capacity { vec_capacity room.old ≤ vec_capacity room.new }
 {
-    room.clear();
     let Ok(()) = room.extend_from_slice(bytes) else {
         unreachable!()
     };
