@@ -67,7 +67,7 @@ fn few(alloc: Global, fields: Fields<'_>) -> Result<Latches, FieldFault>
     ensures { Gives (λ l. l) result (few_at fields.entry) }
 {
     match Latches::new(latches(alloc, fields)?) {
-        Ok(latches) => Ok(latches),
+        Ok(latches) => Ok(latches.shared(alloc)),
         Err(_) => Err(FaultCause::ManyLatches.fault()),
     }
 }

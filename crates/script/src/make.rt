@@ -72,7 +72,7 @@ fn open(alloc: Global, i: u32, last: u32, out: &mut Vec<Command>) -> Result<u32,
     }
     let count = draw(last);
     let (list, last) = drawn_latches(alloc, 1 + count % 4, count)?;
-    begin(alloc, i, few(list), out)?;
+    begin(alloc, i, few(alloc, list), out)?;
     Ok(last)
 }
 
@@ -110,7 +110,7 @@ fn first_check(alloc: Global, i: u32, latches: &Latches) -> Result<Option<Comman
         Mode::Acquire | Mode::Look => Ok(None),
         Mode::Optimistic => Ok(Some(Command::Check {
             name: name_of(i),
-            latches: few(first_of(alloc, latches.list())?),
+            latches: few(alloc, first_of(alloc, latches.list())?),
         })),
     }
 }
@@ -139,12 +139,12 @@ fn close(alloc: Global, i: u32, out: &mut Vec<Command>) -> Result<(), Memory>
 }
 
 // Few enough latches for one request.
-fn few(list: Vec<Latch>) -> Latches
+fn few(alloc: Global, list: Vec<Latch>) -> Latches
     requires { length list.items ≤ 4 }
     ensures { result ≡ list.items }
 {
     match Latches::new(list) {
-        Ok(latches) => latches,
+        Ok(latches) => latches.shared(alloc),
         Err(_) => unreachable!(),
     }
 }
