@@ -1,7 +1,7 @@
 -- A free row whose words are cleared becomes a node.
-use Rattle.std.proofs.Common.{◌≡◌, ℕ, zero, suc, ◌+◌, ◌<◌, ◌≤◌, sym, refl, ap, ◌∙◌, inl, inr, ⊎_elim, arith}
+use Rattle.std.proofs.Common.{◌≡◌, ℕ, zero, suc, ◌+◌, ◌<◌, ◌≤◌, List, ◌∷◌, sym, refl, ap, ◌∙◌, inl, inr, ⊎_elim, eq-eqb, arith}
 use mathlib.Core.Option.{some}
-use Rattle.row_pool.specs.Lists.{find}
+use Rattle.row_pool.specs.Lists.{find, without}
 use Rattle.row_pool.specs.Trees.{Entry}
 use Rattle.row_pool.specs.SeatView.{SeatView}
 use Rattle.row_pool.specs.Layout.{first_link, link_count, IsContent}
@@ -9,9 +9,13 @@ use Rattle.row_pool.specs.Changes.{written, turned_into, with_entry}
 use Rattle.row_pool.specs.SeatState.{OnlyEntryChanges, IsNewNode}
 use Rattle.row_pool.specs.Chains.{HasMark}
 use Rattle.row_pool.specs.Loops.{HasZeros}
+use Rattle.row_pool.proofs.Sums.{without-twice}
 use Rattle.row_pool.proofs.Seats.{same_or, find-put}
 use Rattle.row_pool.proofs.Writes.{low_or}
 use Rattle.row_pool.proofs.Chains.{find-noted, find-noted-else}
+
+without-head : {A : Type 0} (r : ℕ) (x : A) (ps : List (ℕ × A)) → without r ((r, x) ∷ without r ps) ≡ without r ps
+without-head r x ps = rw (eq-eqb r r refl) (without-twice r ps)
 
 -- a free row has no counted link
 pub plain-free : (e : Entry) (w : ℕ) → e.kind ≡ 0 → 1 ≤ w → w < 80 → IsContent e.kind w
@@ -52,3 +56,12 @@ fan-node (suc (suc (suc (suc k)))) a b = absurd (omega arith)
 
 pub new-node : (kind : ℕ) (e d : Entry) → 2 ≤ kind → kind ≤ 3 → HasZeros (link_count 2) e d → IsNewNode kind e (turned_into kind d)
 new-node kind e d a b x = record { is = refl; own = x.own; linked = x.linked; links = refl; said = find-noted 1 kind d.known }
+
+-- a word that is written twice
+pub written-twice : (w x y : ℕ) (e : Entry) → written w y (written w x e) ≡ written w y e
+written-twice w x y e = ap (λ known. record { kind = e.kind; own = e.own; linked = e.linked; links = e.links; known = (w, y) ∷ known })
+    (without-head w x e.known)
+
+pub entry-twice : (r : ℕ) (d e : Entry) (v : SeatView) → with_entry r e (with_entry r d v) ≡ with_entry r e v
+entry-twice r d e v = ap (λ owned. record { refs = v.refs; owned = (r, e) ∷ owned; number = v.number; out = v.out; size = v.size })
+    (without-head r d v.owned)

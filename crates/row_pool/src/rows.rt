@@ -463,6 +463,19 @@ impl Rows {
         }
     }
 
+    // A word of an owned row that is no counted link, and not the kind, holds 0. Most of those that are to be links hold it already, and a load costs less than
+    // a store.
+    fn zero(&self, seat: &mut RowSeat, row: u32, word: u32)
+        requires table { seat.old.table ≡ self.now }
+        requires plain { (e : Entry) × (find row seat.old.view.owned ≡ some e) × IsContent e.kind word × (0 < e.kind → word ≢ 1) }
+        ensures same { OnlyViewChanges seat.old seat.new }
+        ensures view { (e : Entry) → find row seat.old.view.owned ≡ some e → seat.new.view ≡ with_entry row (written word 0 e) seat.old.view }
+    {
+        if self.note(seat, row, word) != 0 {
+            self.put(seat, row, word, 0);
+        }
+    }
+
     // The words that are to be links hold 0.
     fn clear(&self, seat: &mut RowSeat, row: u32)
         requires table { seat.old.table ≡ self.now }
@@ -473,7 +486,7 @@ impl Rows {
             × HasZeros (link_count 2) e d }
     {
         for k in 0..NODE_LINKS {
-            self.put(seat, row, NODE_LINK + k, 0);
+            self.zero(seat, row, NODE_LINK + k);
         }
     }
 
@@ -492,8 +505,7 @@ impl Rows {
     }
 
     /// A free row that comes from a chain becomes a leaf (2) or an inner node (3) whose links are empty. One load and one store, where the row was a node
-    /// before
-    /// or was never used; 64 stores more where it was an item.
+    /// before or was never used; where it was an item, 64 loads more, and a store for each word of them that isn't 0.
     pub fn start_node(&self, seat: &mut RowSeat, row: u32, kind: u64)
         requires table { seat.old.table ≡ self.now }
         requires kind { (2 ≤ kind) × (kind ≤ 3) }
