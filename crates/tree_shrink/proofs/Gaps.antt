@@ -10,72 +10,98 @@ use Rattle.interval_tree.proofs.Rows.{back-cons}
 use Rattle.interval_tree.specs.Held.{OwnsNode}
 use Rattle.interval_tree.specs.Steps.{CanSwap, Swaps}
 use Rattle.tree_shrink.proofs.Seams.{nothing}
-use Rattle.tree_shrink.specs.Steps.{CanClose, CanCloseChildren, CanDraw, Closes, ClosesChildren, Draws}
+use Rattle.tree_shrink.specs.Steps.{CanClose, CanCloseChildren, CanDraw, CanShift, Closes, ClosesChildren, Draws, Shifts}
 
--- where nothing is behind it, a link comes out by one swap
-pub draw-last : (v : SeatView) (row k n : ℕ) → n ≡ 0 → CanDraw v row k n → CanSwap v row k 0
-draw-last v row k n none (kind, m, us, [], vs, b, o, at, many, most, few) =
-    (kind, m, us, vs, b, nil, v.refs, o, at, omega arith, refl, refl, omega arith)
-draw-last v row k n none (kind, m, us, c ∷ cs, vs, b, o, at, many, most, few) = absurd (omega arith)
+-- a list that isn't empty has a last element
+record LastOf (c : Tree) (cs : List Tree) : Type 0 where
+  pub front : List Tree
+  pub last : Tree
+  pub split : c ∷ cs ≡ front ++ last ∷ []
+  pub many : length front ≡ length cs
 
-pub drawn-last : (v w : SeatView) (row k n result : ℕ) → n ≡ 0 → Swaps v w row k 0 result → Draws v w row k n result
-drawn-last v w row k n result none f kind m us [] vs b o at many = f kind m us vs b nil v.refs o at refl refl
-drawn-last v w row k n result none f kind m us (c ∷ cs) vs b o at many = absurd (omega arith)
+last-of : (c : Tree) (cs : List Tree) → LastOf c cs
+last-of c [] = record { front = []; last = c; split = refl; many = refl }
+last-of c (d ∷ ds) = let z = last-of d ds in record { front = c ∷ z.front; last = z.last; split = ap (λ l. c ∷ l) z.split; many = ap suc z.many }
 
--- else the link behind it comes out first
-behind : (us bs vs : List Tree) (b c : Tree) → us ++ b ∷ (c ∷ bs ++ vs) ≡ (us ++ b ∷ []) ++ c ∷ (bs ++ vs)
-behind us bs vs b c = sym (append_assoc us (b ∷ []) (c ∷ (bs ++ vs)))
+behind-last : (us vs : List Tree) (b c : Tree) (cs : List Tree) (z : LastOf c cs) → us ++ b ∷ (c ∷ cs ++ vs) ≡ (us ++ b ∷ z.front) ++ z.last ∷ vs
+behind-last us vs b c cs z = ap (λ l. us ++ b ∷ (l ++ vs)) z.split ∙ ap (λ l. us ++ b ∷ l) (append_assoc z.front (z.last ∷ []) vs)
+    ∙ sym (append_assoc us (b ∷ z.front) (z.last ∷ vs))
 
-pub draw-next : (v : SeatView) (row k n : ℕ) → 0 < n → CanDraw v row k n → CanDraw v row (k + 1) (n - 1)
-draw-next v row k n low (kind, m, us, [], vs, b, o, at, many, most, few) = absurd (omega arith)
-draw-next v row k n low (kind, m, us, c ∷ cs, vs, b, o, at, many, most, few) = (
-  kind,
-  m,
-  us ++ b ∷ [],
-  cs,
-  vs,
-  c,
-  subst (OwnsNode v row kind m) (behind us cs vs b c) o,
-  length-append us (b ∷ []) ∙ omega arith,
-  omega arith,
-  omega arith,
-  few,
-)
+-- the last of the links goes first
+pub shift-swap : (v : SeatView) (row k n goal : ℕ) → CanShift v row k n goal → CanSwap v row (k + n) goal
+shift-swap v row k n goal (kind, m, us, [], vs, b, t, R, o, at, many, most, back, named, few) =
+    (kind, m, us, vs, b, t, R, o, omega arith, omega arith, back, named, few)
+shift-swap v row k n goal (kind, m, us, c ∷ cs, vs, b, t, R, o, at, many, most, back, named, few) =
+    let z = last-of c cs in (
+      kind,
+      m,
+      us ++ b ∷ z.front,
+      vs,
+      z.last,
+      t,
+      R,
+      subst (OwnsNode v row kind m) (behind-last us vs b c cs z) o,
+      length-append us (b ∷ z.front) ∙ (let y = z.many in omega arith),
+      omega arith,
+      back,
+      named,
+      few,
+    )
 
--- and takes its place
-pub record Drawn (v x : SeatView) (row k n next kind m : ℕ) (us bs vs : List Tree) (b : Tree) : Type 0 where
-  pub one : Tree
-  pub later : List Tree
-  pub split : bs ≡ one ∷ later
-  pub owns : OwnsNode x row kind m (us ++ b ∷ (later ++ nil ∷ vs))
-  pub back : x.refs ≡ with_old_target one v.refs
-  pub named : tree_word one ≡ next
+-- and is then what goes into the place in front of it
+record Shifted (w : SeatView) (row k n next kind m : ℕ) (us bs vs : List Tree) (b t : Tree) (R : List Tree) : Type 0 where
+  pub front : List Tree
+  pub last : Tree
+  pub split : bs ≡ front ++ last ∷ []
+  pub many : length front ≡ n - 1
+  pub owns : OwnsNode w row kind m (us ++ b ∷ (front ++ t ∷ vs))
+  pub back : w.refs ≡ with_old_target last R
+  pub named : tree_word last ≡ next
 
-pub drawn-next : (v x : SeatView) (row k n next : ℕ) → 0 < n → Draws v x row (k + 1) (n - 1) next → (kind m : ℕ) (us bs vs : List Tree) (b : Tree)
-    → OwnsNode v row kind m (us ++ b ∷ (bs ++ vs)) → length us ≡ k → length bs ≡ n → Drawn v x row k n next kind m us bs vs b
-drawn-next v x row k n next low f kind m us [] vs b o at many = absurd (omega arith)
-drawn-next v x row k n next low f kind m us (c ∷ cs) vs b o at many =
-    let z = f kind m (us ++ b ∷ []) cs vs c (subst (OwnsNode v row kind m) (behind us cs vs b c) o) (length-append us (b ∷ []) ∙ omega arith) (omega arith) in
+shifted-one : (v w : SeatView) (row k n goal next : ℕ) → 0 < n → Swaps v w row (k + n) goal next → (kind m : ℕ) (us bs vs : List Tree) (b t : Tree)
+    (R : List Tree) → OwnsNode v row kind m (us ++ b ∷ (bs ++ vs)) → length us ≡ k → length bs ≡ n → v.refs ≡ with_old_target t R → tree_word t ≡ goal
+    → Shifted w row k n next kind m us bs vs b t R
+shifted-one v w row k n goal next low f kind m us [] vs b t R o at many back named = absurd (omega arith)
+shifted-one v w row k n goal next low f kind m us (c ∷ cs) vs b t R o at many back named =
+    let z = last-of c cs in
+    let y = f kind m (us ++ b ∷ z.front) vs z.last t R (subst (OwnsNode v row kind m) (behind-last us vs b c cs z) o)
+    (length-append us (b ∷ z.front) ∙ (let y = z.many in omega arith)) back named in
     record {
-      one = c;
-      later = cs;
-      split = refl;
-      owns = subst (OwnsNode x row kind m) (append_assoc us (b ∷ []) (cs ++ nil ∷ vs)) z.1;
-      back = z.2;
-      named = sym z.0;
+      front = z.front;
+      last = z.last;
+      split = z.split;
+      many = (let y = z.many in omega arith);
+      owns = subst (OwnsNode w row kind m) (append_assoc us (b ∷ z.front) (t ∷ vs)) y.1;
+      back = y.2;
+      named = sym y.0;
     }
 
-pub draw-swap : (v x : SeatView) (row k n next : ℕ) → 0 < n → CanDraw v row k n → Draws v x row (k + 1) (n - 1) next → CanSwap x row k next
-draw-swap v x row k n next low (kind, m, us, bs, vs, b, o, at, many, most, few) f =
-    let d = drawn-next v x row k n next low f kind m us bs vs b o at many in
-    (kind, m, us, d.later ++ nil ∷ vs, b, d.one, v.refs, d.owns, at, omega arith, d.back, d.named, omega arith)
+pub shift-next : (v w : SeatView) (row k n goal next : ℕ) → 0 < n → CanShift v row k n goal → Swaps v w row (k + n) goal next
+    → CanShift w row k (n - 1) next
+shift-next v w row k n goal next low (kind, m, us, bs, vs, b, t, R, o, at, many, most, back, named, few) f =
+    let d = shifted-one v w row k n goal next low f kind m us bs vs b t R o at many back named in
+    (kind, m, us, d.front, t ∷ vs, b, d.last, R, d.owns, at, d.many, omega arith, d.back, d.named, few)
 
-pub all-drawn : (v x w : SeatView) (row k n next result : ℕ) → 0 < n → Draws v x row (k + 1) (n - 1) next → Swaps x w row k next result
-    → Draws v w row k n result
-all-drawn v x w row k n next result low f g kind m us bs vs b o at many =
-    let d = drawn-next v x row k n next low f kind m us bs vs b o at many in
-    let z = g kind m us (d.later ++ nil ∷ vs) b d.one v.refs d.owns at d.back d.named in
-    (z.0, subst (OwnsNode w row kind m) (ap (λ l. us ++ (l ++ nil ∷ vs)) (sym d.split)) z.1, z.2)
+pub shifted-last : (v w : SeatView) (row k n goal result : ℕ) → n ≡ 0 → Swaps v w row (k + n) goal result → Shifts v w row k n goal result
+shifted-last v w row k n goal result none f kind m us [] vs b t R o at many back named = f kind m us vs b t R o (omega arith) back named
+shifted-last v w row k n goal result none f kind m us (c ∷ cs) vs b t R o at many back named = absurd (omega arith)
+
+pub all-shifted : (v w x : SeatView) (row k n goal next result : ℕ) → 0 < n → Swaps v w row (k + n) goal next → Shifts w x row k (n - 1) next result
+    → Shifts v x row k n goal result
+all-shifted v w x row k n goal next result low f g kind m us bs vs b t R o at many back named =
+    let d = shifted-one v w row k n goal next low f kind m us bs vs b t R o at many back named in
+    let z = g kind m us d.front (t ∷ vs) b d.last R d.owns at d.many d.back d.named in (
+      z.0,
+      subst (OwnsNode x row kind m) (ap (λ l. us ++ l) (sym (append_assoc d.front (d.last ∷ []) (t ∷ vs)) ∙ ap (λ l. l ++ t ∷ vs) (sym d.split))) z.1,
+      z.2,
+    )
+
+-- a link comes out where those behind it move down, and nothing goes into the last place
+pub draw-shift : (v : SeatView) (row k n : ℕ) → CanDraw v row k n → CanShift v row k n 0
+draw-shift v row k n (kind, m, us, bs, vs, b, o, at, many, most, few) = (kind, m, us, bs, vs, b, nil, v.refs, o, at, many, most, refl, refl, omega arith)
+
+pub drawn-shift : (v w : SeatView) (row k n result : ℕ) → Shifts v w row k n 0 result → Draws v w row k n result
+drawn-shift v w row k n result f kind m us bs vs b o at many = f kind m us bs vs b nil v.refs o at many refl refl
 
 -- a gap is a link that has come out: what is behind it is drawn into it
 pub gap-draws : (v : SeatView) (row k n : ℕ) → CanClose v row k n → CanDraw v row k n

@@ -17,6 +17,18 @@ use Rattle.tree_shrink.specs.Stages.{Carried, Gains, Has, Joins, Lent, Lightens,
 abbrev pub SpendsAll : ℕ → List ℕ → List ℕ → SeatView → SeatView → Chain → Chain → Type 0
 SpendsAll k xs ys v w c d = (rs : List ℕ) → IsChain v c rs → Spends k xs ys rs v w d
 
+-- The links of the owned node from k to k + n can move down by one place, and what the link word `goal` names, the seat's newest reference or nothing, can
+-- take the last place
+abbrev pub CanShift : SeatView → ℕ → ℕ → ℕ → ℕ → Type 0
+CanShift v row k n goal = (kind m : ℕ) × (us bs vs : List Tree) × (b t : Tree) × (R : List Tree) × OwnsNode v row kind m (us ++ b ∷ (bs ++ vs))
+    × (length us ≡ k) × (length bs ≡ n) × (k + n ≤ 63) × (v.refs ≡ with_old_target t R) × (tree_word t ≡ goal) × (length R < 2 ^ 32)
+
+-- they did; what the link k held is the newest reference
+abbrev pub Shifts : SeatView → SeatView → ℕ → ℕ → ℕ → ℕ → ℕ → Type 0
+Shifts v w row k n goal result = (kind m : ℕ) (us bs vs : List Tree) (b t : Tree) (R : List Tree) → OwnsNode v row kind m (us ++ b ∷ (bs ++ vs))
+    → length us ≡ k → length bs ≡ n → v.refs ≡ with_old_target t R → tree_word t ≡ goal
+    → (result ≡ tree_word b) × OwnsNode w row kind m (us ++ (bs ++ t ∷ vs)) × (w.refs ≡ with_old_target b R)
+
 -- the link k of the owned node can come out, and n links behind it can move down by one place
 abbrev pub CanDraw : SeatView → ℕ → ℕ → ℕ → Type 0
 CanDraw v row k n = (kind m : ℕ) × (us bs vs : List Tree) × (b : Tree) × OwnsNode v row kind m (us ++ b ∷ (bs ++ vs)) × (length us ≡ k) × (length bs ≡ n)

@@ -1,7 +1,7 @@
 // Links of owned nodes: a gap is closed, and a child is taken out.
 ghost use Rattle.std.specs.Prelude.{◌≡◌, ◌≢◌, ℕ, ◌+◌, ◌-◌, ◌<◌, ◌≤◌, ◌^◌, List, [], ◌∷◌, ◌++◌, length};
 ghost use Rattle.interval_tree.specs.Held.{OthersStand, HasRoom};
-ghost use Rattle.tree_shrink.specs.Steps.{SpendsAll, CanDraw, Draws, CanClose, Closes, CanTake, Takes, CanCut, Cuts, CanCloseChildren, ClosesChildren};
+ghost use Rattle.tree_shrink.specs.Steps.{SpendsAll, CanShift, Shifts, CanDraw, Draws, CanClose, Closes, CanTake, Takes, CanCut, Cuts, CanCloseChildren, ClosesChildren};
 
 use interval_tree::workshop::{kind_of, own_node, set_count, swap};
 use row_pool::{Chain, RowSeat, Rows};
@@ -14,6 +14,23 @@ const CHILDREN: u32 = 32;
 /// The kind of an inner node.
 const INNER: u64 = 3;
 
+/// The links from k to k + n move down by one place, the last one first, and what the link word `goal` names, the seat's newest reference or nothing, goes
+/// into the last place. The answer is what came out of the first, as a link word.
+fn shift_down(rows: &Rows, seat: &mut RowSeat, row: u32, k: u32, n: u32, goal: u64) -> u64
+    requires table { seat.old.table ≡ rows.now }
+    requires links { CanShift seat.old.view row k n goal }
+    ensures table { seat.new.table ≡ seat.old.table }
+    ensures shifted { Shifts seat.old.view seat.new.view row k n goal result }
+    ensures others { OthersStand row seat.old.view seat.new.view }
+    ensures low { result ≤ 4194304 }
+{
+    let next = swap(rows, seat, row, k + n, goal);
+    if n == 0 {
+        return next;
+    }
+    shift_down(rows, seat, row, k, n - 1, next)
+}
+
 /// The link k of an owned node comes out, and the n links behind it move down by one place, which costs one store a link: the last one goes first. The last
 /// place is empty then. The answer is what came out, as a link word, and the seat's newest reference is to it.
 pub(crate) fn draw_link(rows: &Rows, seat: &mut RowSeat, row: u32, k: u32, n: u32) -> u64
@@ -24,11 +41,7 @@ pub(crate) fn draw_link(rows: &Rows, seat: &mut RowSeat, row: u32, k: u32, n: u3
     ensures others { OthersStand row seat.old.view seat.new.view }
     ensures low { result ≤ 4194304 }
 {
-    if n == 0 {
-        return swap(rows, seat, row, k, 0);
-    }
-    let next = draw_link(rows, seat, row, k + 1, n - 1);
-    swap(rows, seat, row, k, next)
+    shift_down(rows, seat, row, k, n, 0)
 }
 
 /// The n links behind the empty link k move down by one place, and the last place is empty then.
