@@ -1,17 +1,17 @@
 -- How many requests are open, where each session has at most one and some session has none.
-use Rattle.std.proofs.Common.{◌≡◌, ◌≢◌, ℕ, suc, ◌==◌, eqb, ◌+◌, ◌<◌, ◌≤◌, Bool, true, false, not, List, [], ◌∷◌, length, map, refl, sym, ◌∙◌, ap, subst}
-use Rattle.std.proofs.Common.{inl, inr, arith, ne_eqb, Some}
+use Rattle.std.proofs.Common.{◌≡◌, ◌≢◌, ℕ, eqb, ◌+◌, ◌<◌, ◌≤◌, true, false, not, List, [], ◌∷◌, length, map, refl, sym, ◌∙◌, ap, subst}
+use Rattle.std.proofs.Common.{inl, inr, arith, ne_eqb}
 use Rattle.std.proofs.lemmas.Bool.{eqb-true, not-true}
 use Rattle.std.proofs.lemmas.List.{length-map}
 use Rattle.std.proofs.lemmas.Map.Steps.{length-le_from_distinct_below}
-use Rattle.std.specs.List.{AllByRecursion, IsDistinct, list_any, slice_get}
-use Rattle.latch_model.specs.Histories.{Begin, begin_with, begins, entry_of, has_ended, open_begins}
+use Rattle.std.specs.List.{AllByRecursion, IsDistinct, list_any}
+use Rattle.latch_model.specs.Histories.{Begin, begins, entry_of, has_ended, open_begins}
 use Rattle.latch_model.specs.Legal.{IsLegal, IsLegalBelow}
 use Rattle.latch_model.specs.declared.history.Entry.{Entry}
 use Rattle.latch_model.specs.declared.history.Sizes.{Sizes}
 use Rattle.latch_model.proofs.Appending.{IsLegal-below}
 use Rattle.latch_model.proofs.Counting.{Rises, Rises-begins, Rises-filter, begin_is}
-use Rattle.latch_model.proofs.Lists.{In, In-from_Contains}
+use Rattle.latch_model.proofs.Lists.{In}
 use Rattle.latch_model.proofs.Members.{filter_of-In, list_any_of, map_of-In}
 use Rattle.latch_model.proofs.Ordered.{stands_at}
 use Rattle.std.proofs.Math.Seq.{take-length}

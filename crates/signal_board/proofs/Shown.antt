@@ -1,7 +1,6 @@
 -- What has been shown is a front of the history, and a pass's own entries all stand in it.
-use Rattle.std.proofs.Common.{◌≡◌, ℕ, zero, suc, ◌+◌, ◌<◌, ◌≤◌, Bool, true, false, cond, ◌==◌, List, [], ◌∷◌, ◌++◌, length, Option, Some, None, refl, sym, ap}
-use Rattle.std.proofs.Common.{◌∙◌, subst, inl, inr, ⊎_elim, arith, le_refl, append_assoc, append-nil, add-zero, length-append}
-use Rattle.std.specs.List.{Contains}
+use Rattle.std.proofs.Common.{◌≡◌, ℕ, suc, ◌+◌, ◌<◌, ◌≤◌, Bool, true, false, cond, ◌==◌, List, [], ◌∷◌, ◌++◌, length, Option, Some, None, refl, sym, ap}
+use Rattle.std.proofs.Common.{◌∙◌, subst, inl, inr, arith, append_assoc, append-nil, add-zero, length-append}
 use Rattle.latch_model.specs.declared.history.Entry.{Entry}
 use Rattle.latch_model.proofs.Lists.{Contains-from_In, In, In-append_right}
 use Rattle.signal_board.specs.Rule.{FrontOk, IsPrefix, Marks, PassOk, Reaches, full, own, own_from, who_of, with_end}
