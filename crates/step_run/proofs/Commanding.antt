@@ -545,13 +545,5 @@ kept_value i v l ls ms new at e f g =
 pub kept_over : (i : ℕ) (l : LiveSays) (ls new : List LiveSays) → slice_get ls i ≡ Some l → OverValue ≡ l.value → new ≡ with_value i OverValue ls → new ≡ ls
 kept_over i l ls new at e f = f ∙ ap (λ x. with_value i x ls) e ∙ value_kept ls i l at
 
-pub place_of : {n : ℕ} (name : List ℕ) (xs ys : List Live) → xs ≡ ys → Some n ≡ position (λ (l : LiveSays). same_name l.name name) (map seen_live xs) →
-    position (λ (l : LiveSays). same_name l.name name) (map seen_live ys) ≡ Some n
-place_of name xs ys e f = ap (λ zs. position (λ (l : LiveSays). same_name l.name name) (map seen_live zs)) (sym e) ∙ sym f
-
-pub no_place_of : (name : List ℕ) (xs ys : List Live) → xs ≡ ys → None ≡ position (λ (l : LiveSays). same_name l.name name) (map seen_live xs) →
-    position (λ (l : LiveSays). same_name l.name name) (map seen_live ys) ≡ None
-no_place_of name xs ys e f = ap (λ zs. position (λ (l : LiveSays). same_name l.name name) (map seen_live zs)) (sym e) ∙ sym f
-
-pub inside_of : (i : ℕ) (xs ys : List Live) → xs ≡ ys → i < length xs → i < length (map seen_live ys)
-inside_of i xs ys e l = let a : length (map seen_live ys) ≡ length ys = length-map ys seen_live in let b : length xs ≡ length ys = ap length e in omega arith
+pub inside_of : (i : ℕ) (ls : List Live) → i < length ls → i < length (map seen_live ls)
+inside_of i ls l = let a : length (map seen_live ls) ≡ length ls = length-map ls seen_live in omega arith

@@ -1,5 +1,5 @@
 -- A run stays sound by each change of its passes and of its live names.
-use Rattle.std.proofs.Common.{◌≡◌, ◌≢◌, ℕ, zero, suc, ◌+◌, ◌-◌, ◌≤◌, Bool, true, false, not, ◌&&◌, ◌||◌, ◌==◌, List, [], ◌∷◌, ◌++◌, length, Some, refl, sym}
+use Rattle.std.proofs.Common.{◌≡◌, ◌≢◌, ℕ, zero, suc, ◌+◌, ◌-◌, ◌<◌, ◌≤◌, Bool, true, false, not, ◌&&◌, ◌||◌, ◌==◌, List, [], ◌∷◌, ◌++◌, length, map, get_or, Some, refl, sym}
 use Rattle.std.proofs.Common.{ap, ◌∙◌, subst, arith}
 use Rattle.std.specs.Prelude.{slice_get, slice_set}
 use Rattle.std.specs.List.{remove}
@@ -12,9 +12,10 @@ use Rattle.latch_model.proofs.Elements.{Each, Each-append}
 use Rattle.signal_board.specs.Rule.{open_count}
 use Rattle.signal_board.specs.Says.{PassSays}
 use Rattle.waiter.specs.Says.{CoreId, OptimistSays, WaitingSays}
-use Rattle.step_run.specs.Lives.{AreWarned, HasNoCause, IsLive, IsOf, LiveSays, cause_of, has_name, has_open, is_held, is_none, lent_by, warned_live}
+use Rattle.step_run.specs.Lives.{AreWarned, HasNoCause, IsLive, IsOf, LiveSays, cause_of, has_name, has_open, is_held, is_none, lent_by, seen_live, warned_live}
 use Rattle.step_run.specs.Lives.{warned_value, with_value}
 use Rattle.step_run.specs.Runs.{IsLent, IsPass, RunSays, Sound, given_back}
+use Rattle.step_run.specs.declared.live.Live.{Live}
 use Rattle.step_run.specs.declared.live.Value.{Value}
 use Rattle.step_run.specs.declared.live.Value.TheVariants.{Optimist, Waiting, Granted, Over}
 use Rattle.step_run.proofs.Places.{Each-at, Each-remove}
@@ -143,6 +144,20 @@ with_lives r old new ls some f g causes h = record {
   lives = g;
   causes = causes;
 }
+
+-- Whether some live name has a cause is looked for anew.
+pub none_found : (ls : List Live) → ((k : ℕ) (d : Live) → k < length ls → is_none (cause_of (seen_live (get_or ls k d)).value) ≡ true) →
+    Each HasNoCause (map seen_live ls)
+none_found [] h = tt
+none_found (l ∷ ls) h = (none (cause_of (seen_live l).value) (h 0 l (omega arith)), none_found ls (λ k d i. h (suc k) d (omega arith)))
+  where
+    none : (c : Cause) → is_none c ≡ true → c ≡ no_cause
+    none no_cause e = refl
+    none Called e = absurd (cc)
+    none (From p) e = absurd (cc)
+
+pub sound_looked : (r : RunSays) (some : Bool) → (some ≡ false → Each HasNoCause r.lives) → Sound 0 r → Sound 0 (record r { some_cause = some })
+sound_looked r some causes h = with_lives r 0 0 r.lives some (λ j z d o. (z, o)) h.lives causes h
 
 -- A value is lent.
 pub sound_take : (r : RunSays) (i : ℕ) (l : LiveSays) (ls : List LiveSays) → slice_get r.lives i ≡ Some l → ls ≡ with_value i Over r.lives → Sound 0 r →

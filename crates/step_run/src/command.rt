@@ -12,7 +12,7 @@ ghost use Rattle.waiter.specs.Says.{OptimistSays, id_of};
 
 use crate::fault::RunFault;
 use crate::lines::{checked_line, metrics_line, number_line, words_line};
-use crate::live::{Live, Value, live_place, poison, take};
+use crate::live::{Live, Value, let_go, live_place, poison, take};
 use crate::open::{Opening, open};
 use crate::run::{StepRun, end_value, give_back};
 use crate::turn::turn;
@@ -81,7 +81,7 @@ fn wait(run: &mut StepRun, name: &Name, out: &mut Vec<u8>) -> Result<(), Memory>
     ensures step { (s : State) → Stands s (seen_run run.old) →
         OnOk result (Makes (on_name s name.now (λ n. waited n.phase n s)) (seen_run run.new) out.old.items out.new.items) }
 {
-    match live_place(run.lives.as_slice(), name) {
+    match live_place(&run.lives, name) {
         Some(i) => wait_at(run, i, out),
         None => Ok(()),
     }
@@ -119,7 +119,7 @@ fn check(
     ensures step { (s : State) → Stands s (seen_run run.old) →
         OnOk result (Makes (on_name s name.now (λ n. checked n s asked.now)) (seen_run run.new) out.old.items out.new.items) }
 {
-    match live_place(run.lives.as_slice(), name) {
+    match live_place(&run.lives, name) {
         Some(i) => check_at(alloc, run, i, asked, out),
         None => Ok(()),
     }
@@ -196,7 +196,7 @@ fn poison_name(run: &mut StepRun, name: &Name, out: &mut Vec<u8>) -> Result<(), 
     ensures step { (s : State) → Stands s (seen_run run.old) →
         OnOk result (Makes (on_name s name.now (λ n. poisoned n s)) (seen_run run.new) out.old.items out.new.items) }
 {
-    match live_place(run.lives.as_slice(), name) {
+    match live_place(&run.lives, name) {
         Some(i) => poison_at(run, i, out),
         None => Ok(()),
     }
@@ -225,7 +225,7 @@ fn release(run: &mut StepRun, name: &Name, out: &mut Vec<u8>) -> Result<(), Memo
     ensures step { (s : State) → Stands s (seen_run run.old) →
         OnOk result (Makes (on_name s name.now (λ n. released n s)) (seen_run run.new) out.old.items out.new.items) }
 {
-    match live_place(run.lives.as_slice(), name) {
+    match live_place(&run.lives, name) {
         Some(i) => release_at(run, i, out),
         None => Ok(()),
     }
@@ -245,7 +245,7 @@ fn release_at(run: &mut StepRun, i: usize, out: &mut Vec<u8>) -> Result<(), Memo
         mode: _,
         turns: _,
         value,
-    } = run.lives.remove(i);
+    } = let_go(&mut run.lives, i);
     let written = words_line(name, b"ended", out);
     end_value(run, value);
     written

@@ -9,12 +9,13 @@ ghost use Rattle.waiter.specs.Says.{id_of};
 
 use crate::live::{Live, Value, is_none};
 use latch_model::history::Cause;
+use std::collections::VecDeque;
 use waiter::{Core, Granted, Optimist, Polled, Waiting};
 
 /// Before a poll: hears each live request that has a cause. Where none may have one, there is nobody to hear.
 pub(crate) fn hear_causes(
     core: &Core,
-    lives: &mut Vec<Live>,
+    lives: &mut VecDeque<Live>,
     waiting: &mut Waiting,
     some_cause: bool,
 )
@@ -34,7 +35,7 @@ pub(crate) fn hear_causes(
 /// After a poll: hears the request that is in the way, where it may have been found poisoned.
 pub(crate) fn hear_blocker(
     core: &Core,
-    lives: &mut Vec<Live>,
+    lives: &mut VecDeque<Live>,
     waiting: &mut Waiting,
     polled: Polled,
 )
@@ -72,7 +73,7 @@ fn blocker(polled: Polled) -> u64
 }
 
 // Hears each live request that has a cause, and the one of this number.
-fn hear_some(core: &Core, lives: &mut Vec<Live>, waiting: &mut Waiting, by: u64)
+fn hear_some(core: &Core, lives: &mut VecDeque<Live>, waiting: &mut Waiting, by: u64)
     requires lives { Each (IsLive (id_of core.now)) (map seen_live lives.old.items) }
     requires core { waiting.old.core ≡ id_of core.now }
     ensures lives { AreWarned (map seen_live lives.old.items) (map seen_live lives.new.items) }
@@ -85,7 +86,7 @@ fn hear_some(core: &Core, lives: &mut Vec<Live>, waiting: &mut Waiting, by: u64)
 }
 
 // The same of the name at a place.
-fn hear_at(core: &Core, lives: &mut Vec<Live>, i: usize, waiting: &mut Waiting, by: u64)
+fn hear_at(core: &Core, lives: &mut VecDeque<Live>, i: usize, waiting: &mut Waiting, by: u64)
     requires inside { i < length lives.old.items }
     requires live { (l : LiveSays) → slice_get (map seen_live lives.old.items) i ≡ Some l → IsLive (id_of core.now) l }
     requires core { waiting.old.core ≡ id_of core.now }

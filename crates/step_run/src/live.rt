@@ -1,10 +1,11 @@
 // Live names, and the values that stand for their requests.
-ghost use Rattle.std.specs.Prelude.{◌≡◌, ℕ, ◌<◌, length, map, Some, IfOk, IfSome, slice_get};
-ghost use Rattle.std.specs.List.{position};
+ghost use Rattle.std.specs.Prelude.{◌≡◌, ℕ, ◌<◌, length, map, Some, IfOk, IfSome, false, slice_get, slice_index_or};
+ghost use Rattle.std.specs.List.{position, remove};
 ghost use Rattle.script.specs.Commands.{same_name};
 ghost use Rattle.latch_model.specs.declared.history.Fault.TheVariants.{None as no_fault};
 ghost use Rattle.script.specs.Follows.{passed_grant};
-ghost use Rattle.step_run.specs.Lives.{IsOf, LiveSays, called_value, cause_of, ending_of, is_none, may_poison, seen_live, with_value};
+ghost use Rattle.latch_model.proofs.Elements.{Each};
+ghost use Rattle.step_run.specs.Lives.{HasNoCause, IsOf, LiveSays, called_value, cause_of, ending_of, is_none, may_poison, seen_live, with_value};
 ghost use Rattle.waiter.specs.Says.{id_of};
 
 use latch_model::history::{Cause, Fault};
@@ -12,6 +13,7 @@ use latch_model::latch::Mode;
 use script::command::Name;
 use span_key::Memory;
 use std::alloc::Global;
+use std::collections::VecDeque;
 use std::mem;
 use waiter::{Core, Ending, Granted, Optimist, Waiting};
 
@@ -74,20 +76,32 @@ fn no_value(value: Value)
 }
 
 /// The place of the first live name that is called so.
-pub(crate) fn live_place(lives: &[Live], name: &Name) -> Option<usize>
-    ensures place { result ≡ position (λ n. same_name n.name name.now) (map seen_live lives.now) }
-    ensures inside { IfSome result (λ i. i < length lives.now) }
+pub(crate) fn live_place(lives: &VecDeque<Live>, name: &Name) -> Option<usize>
+    ensures place { result ≡ position (λ n. same_name n.name name.now) (map seen_live lives.now.items) }
+    ensures inside { IfSome result (λ i. i < length lives.now.items) }
 {
-    for (i, live) in lives.iter().enumerate() {
-        if live.name.is(name) {
+    for i in 0..lives.len() {
+        if lives[i].name.is(name) {
             return Some(i);
         }
     }
     None
 }
 
+/// The name at this place is live no more.
+pub(crate) fn let_go<'s>(lives: &mut VecDeque<Live<'s>>, i: usize) -> Live<'s>
+    requires { i < length lives.old.items }
+    ensures value { result ≡ slice_index_or lives.old.items i result }
+    ensures lives { lives.new.items ≡ remove lives.old.items i }
+{
+    match lives.remove(i) {
+        Some(live) => live,
+        None => unreachable!(),
+    }
+}
+
 /// Takes out the value of the name at this place, which is over then.
-pub(crate) fn take(lives: &mut Vec<Live>, i: usize) -> Value
+pub(crate) fn take(lives: &mut VecDeque<Live>, i: usize) -> Value
     requires { i < length lives.old.items }
     ensures value { (l : LiveSays) → slice_get (map seen_live lives.old.items) i ≡ Some l → result ≡ l.value }
     ensures lives { map seen_live lives.new.items ≡ with_value i Value.Over (map seen_live lives.old.items) }
@@ -97,7 +111,7 @@ pub(crate) fn take(lives: &mut Vec<Live>, i: usize) -> Value
 }
 
 /// Puts a value into the place of one that was taken out.
-pub(crate) fn put(lives: &mut Vec<Live>, i: usize, value: Value)
+pub(crate) fn put(lives: &mut VecDeque<Live>, i: usize, value: Value)
     requires { (l : LiveSays) × (slice_get (map seen_live lives.old.items) i ≡ Some l) × (l.value ≡ Value.Over) }
     ensures { map seen_live lives.new.items ≡ with_value i value (map seen_live lives.old.items) }
 {
@@ -169,6 +183,18 @@ pub(crate) fn cause_of(value: &Value) -> Cause
         Value::Granted(granted) => granted.cause(),
         Value::Over => Cause::None,
     }
+}
+
+/// Whether the request of some live name has a cause.
+pub(crate) fn some_cause(lives: &VecDeque<Live>) -> bool
+    ensures { result ≡ false → Each HasNoCause (map seen_live lives.now.items) }
+{
+    for i in 0..lives.len() {
+        if !is_none(cause_of(&lives[i].value)) {
+            return true;
+        }
+    }
+    false
 }
 
 /// Whether there is no cause.

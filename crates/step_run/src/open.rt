@@ -1,5 +1,6 @@
 // The opening of a request.
-ghost use Rattle.std.specs.Prelude.{◌≡◌, ℕ, ◌≤◌, ◌+◌, ◌<◌, ◌++◌, [], ◌∷◌, codes, decimal, false, map, length, vec_capacity, vec_len, Some, IfOk, OnOk};
+ghost use Rattle.std.specs.Prelude.{◌≡◌, ℕ, ◌≤◌, ◌+◌, ◌<◌, ◌++◌, [], ◌∷◌, codes, decimal, false, map, length, Some, IfOk, OnOk};
+ghost use Rattle.std.specs.VecDeque.{deque_capacity, deque_len};
 ghost use Rattle.std.specs.Prelude.{IfErr, OnErr, slice_get};
 ghost use Rattle.latch_model.specs.Declaration.{Declaration};
 ghost use Rattle.report.specs.Words.{numbers_text};
@@ -127,7 +128,7 @@ fn begin(
 
 // The request gets a live name, for which there is room.
 fn push<'s>(run: &mut StepRun<'s>, opening: Opening<'s>, value: Box<Value>)
-    requires { vec_len run.old.lives < vec_capacity run.old.lives }
+    requires { deque_len run.old.lives < deque_capacity run.old.lives }
     ensures lives { (seen_run run.new).lives ≡ (seen_run run.old).lives ++ opening_of opening.entry value.value ∷ [] }
     ensures others { (run.new.core ≡ run.old.core) × (run.new.desk ≡ run.old.desk) × (run.new.passes.items ≡ run.old.passes.items)
         × (run.new.some_cause ≡ run.old.some_cause) }
@@ -140,7 +141,7 @@ fn push<'s>(run: &mut StepRun<'s>, opening: Opening<'s>, value: Box<Value>)
         turns: opening.turns,
         value,
     };
-    match run.lives.push(live) {
+    match run.lives.push_back(live) {
         Ok(()) => {}
         Err(_refused) => unreachable!(),
     }

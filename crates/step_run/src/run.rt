@@ -9,13 +9,14 @@ ghost use Rattle.step_run.specs.Seen.{seen_run};
 ghost use Rattle.step_run.specs.State.{start};
 ghost use Rattle.waiter.specs.Says.{id_of};
 
-use crate::live::{Live, Value, cause_of, ending, is_none, put};
+use crate::live::{Live, Value, cause_of, ending, is_none, put, some_cause};
 use latch_model::history::{History, Sizes};
 use sequence_core::desk::Desk;
 use sequence_core::fault::NewFault;
 use signal_board::board::Pass;
 use span_key::Memory;
 use std::alloc::Global;
+use std::collections::VecDeque;
 use waiter::{Core, Ending};
 
 /// What the requests share, the desk, pass w - 1 of each session w, the live names in the order of their opening, and whether some live
@@ -24,7 +25,7 @@ pub(crate) struct StepRun<'s> {
     pub(crate) core: Core,
     pub(crate) desk: Desk,
     pub(crate) passes: Vec<Pass>,
-    pub(crate) lives: Vec<Live<'s>>,
+    pub(crate) lives: VecDeque<Live<'s>>,
     pub(crate) some_cause: bool,
 }
 
@@ -40,7 +41,7 @@ pub(crate) fn start<'s>(alloc: Global, sizes: Sizes) -> Result<StepRun<'s>, Memo
             core,
             desk,
             passes,
-            lives: Vec::new(alloc),
+            lives: VecDeque::new(alloc),
             some_cause: false,
         }),
         Err(NewFault::Memory) => Err(Memory),
@@ -70,8 +71,23 @@ pub(crate) fn end(run: &mut StepRun, ending: Ending)
     run.desk.end(&run.core, &mut run.passes[place], ending);
 }
 
-/// Ends the request of a value that was lent, unless it is over.
+/// Ends the request of a value that was lent, unless it is over. Where it had a cause, the run looks whether a live request still has one.
 pub(crate) fn end_value(run: &mut StepRun, value: Box<Value>)
+    requires sound { Sound (lent_by value.value) (seen_run run.old) }
+    requires value { (who : ℕ) × (1 ≤ who) × (who ≤ SESSION_LIMIT) × IsOf (id_of run.old.core) who value.value }
+    ensures sound { Sound 0 (seen_run run.new) }
+    ensures log { run.new.desk.log ≡ ended_with value.value run.old.desk.log }
+    ensures lives { run.new.lives.items ≡ run.old.lives.items }
+{
+    let had_cause = !is_none(cause_of(&*value));
+    end_lent(run, value);
+    if had_cause {
+        run.some_cause = some_cause(&run.lives);
+    }
+}
+
+// The same, but that the run doesn't look.
+fn end_lent(run: &mut StepRun, value: Box<Value>)
     requires sound { Sound (lent_by value.value) (seen_run run.old) }
     requires value { (who : ℕ) × (1 ≤ who) × (who ≤ SESSION_LIMIT) × IsOf (id_of run.old.core) who value.value }
     ensures sound { Sound 0 (seen_run run.new) }
@@ -90,7 +106,7 @@ pub(crate) fn close(run: StepRun) -> History
     ensures { run.entry.lives.items ≡ [] → result.entries ≡ run.entry.desk.log }
 {
     let mut run = run;
-    while let Some(live) = run.lives.pop() {
+    while let Some(live) = run.lives.pop_back() {
         let Live {
             name: _,
             session: _,

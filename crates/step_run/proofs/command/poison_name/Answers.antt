@@ -3,7 +3,7 @@ use Rattle.std.specs.Prelude.{OnOk}
 use Rattle.step_run.specs.Runs.{Makes}
 use Rattle.step_run.specs.Seen.{seen_run}
 use Rattle.step_run.specs.Steps.{Step, poisoned}
-use Rattle.step_run.proofs.Commanding.{inside_of, no_place_of, on_here, on_none, place_of}
+use Rattle.step_run.proofs.Commanding.{inside_of, on_here, on_none}
 use Rattle.step_run.proofs.command.poison_name.Goals as goal
 
 pub returns-in-Some-clause-step : goal.returns-in-Some-clause-step
@@ -11,8 +11,8 @@ returns-in-Some-clause-step c = λ s h.
     let xs = c.args.run.now.lives.items in
     let name = c.args.name.now in
     let w = on_here s (seen_run c.args.run.now) name c.in-Some.i (λ n. poisoned n s) h
-    (inside_of c.in-Some.i c.as_slice.result.now xs c.as_slice.ensures.value c.in-Some.ensures.inside)
-    (place_of name c.as_slice.result.now xs c.as_slice.ensures.value c.in-Some.ensures.place) in
+    (inside_of c.in-Some.i xs c.in-Some.ensures.inside)
+    (sym c.in-Some.ensures.place) in
     subst (λ (t : Step). OnOk c.poison_at.result (Makes t (seen_run c.poison_at.new.run) c.args.out.now.items c.poison_at.new.out.items)) (sym w.2)
     (c.poison_at.ensures.step s w.0 h w.1)
 
@@ -20,4 +20,4 @@ pub returns-in-None-clause-step : goal.returns-in-None-clause-step
 returns-in-None-clause-step c = λ s h.
     let name = c.args.name.now in
     on_none s (seen_run c.args.run.now) name c.args.out.now.items (λ n. poisoned n s) h
-    (no_place_of name c.as_slice.result.now c.args.run.now.lives.items c.as_slice.ensures.value c.in-None.ensures.place)
+    (sym c.in-None.ensures.place)

@@ -1,5 +1,6 @@
-use Rattle.std.proofs.Common.{◌≡◌, [], ◌∷◌, ◌++◌, List, length, map, Some, sym, ap, ◌∙◌, subst, arith, vec_len}
-use Rattle.std.specs.Prelude.{slice_get, vec_capacity}
+use Rattle.std.proofs.Common.{◌≡◌, [], ◌∷◌, ◌++◌, List, length, map, Some, sym, ap, ◌∙◌, subst, arith}
+use Rattle.std.specs.Prelude.{slice_get}
+use Rattle.std.specs.VecDeque.{deque_capacity, deque_len}
 use Rattle.std.proofs.lemmas.List.{length-map}
 use Rattle.waiter.specs.declared.shared.Core.{Core}
 use Rattle.waiter.specs.Says.{id_of}
@@ -19,8 +20,8 @@ begin_in-requires-clause-idle c =
 
 pub push-requires : goal.push-requires
 push-requires c =
-    let a : vec_len c.begin_in.new.run.lives ≡ vec_len c.reserve.new.self = ap (λ v. vec_len v) c.in_ok-value.ensures.lives.0 in
-    let b : vec_capacity c.begin_in.new.run.lives ≡ vec_capacity c.reserve.new.self = ap (λ v. vec_capacity v) c.in_ok-value.ensures.lives.0 in
+    let a : deque_len c.begin_in.new.run.lives ≡ deque_len c.reserve.new.self = ap (λ v. deque_len v) c.in_ok-value.ensures.lives.0 in
+    let b : deque_capacity c.begin_in.new.run.lives ≡ deque_capacity c.reserve.new.self = ap (λ v. deque_capacity v) c.in_ok-value.ensures.lives.0 in
     omega (arith, c.in_ok-reserve.ensures.ok)
 
 pub write_opening-requires-clause-sound : goal.write_opening-requires-clause-sound

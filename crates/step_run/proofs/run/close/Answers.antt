@@ -11,15 +11,15 @@ use Rattle.step_run.proofs.run.close.Goals as goal
 
 pub end_value-requires-clause-sound : goal.end_value-requires-clause-sound
 end_value-requires-clause-sound c =
-    sound_pop (seen_run c.loop-live.run) (seen_live c.in-Some.live) (map seen_live c.pop.new.self.items)
-    (ap (λ xs. map seen_live xs) c.in-Some.ensures.items ∙ map-append seen_live c.pop.new.self.items (c.in-Some.live ∷ [])) c.loop-live.invariant.sound
+    sound_pop (seen_run c.loop-live.run) (seen_live c.in-Some.live) (map seen_live c.pop_back.new.self.items)
+    (ap (λ xs. map seen_live xs) c.in-Some.ensures.items ∙ map-append seen_live c.pop_back.new.self.items (c.in-Some.live ∷ [])) c.loop-live.invariant.sound
 
 pub end_value-requires-clause-value : goal.end_value-requires-clause-value
 end_value-requires-clause-value c =
     let core = id_of c.loop-live.run.core in
-    let l = live_last core (seen_live c.in-Some.live) (map seen_live c.pop.new.self.items)
+    let l = live_last core (seen_live c.in-Some.live) (map seen_live c.pop_back.new.self.items)
     (subst (λ (ls : List LiveSays). Each (IsLive core) ls)
-    (ap (λ xs. map seen_live xs) c.in-Some.ensures.items ∙ map-append seen_live c.pop.new.self.items (c.in-Some.live ∷ []))
+    (ap (λ xs. map seen_live xs) c.in-Some.ensures.items ∙ map-append seen_live c.pop_back.new.self.items (c.in-Some.live ∷ []))
     c.loop-live.invariant.sound.lives) in
     (c.in-Some.live.session, l.low, l.high, l.of)
 

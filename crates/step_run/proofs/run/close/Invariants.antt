@@ -1,4 +1,5 @@
-use Rattle.std.proofs.Common.{◌≡◌, [], vec_len}
+use Rattle.std.proofs.Common.{◌≡◌, []}
+use Rattle.std.specs.VecDeque.{deque_len}
 use Rattle.step_run.specs.Runs.{Sound}
 use Rattle.step_run.specs.Seen.{seen_run}
 use Rattle.step_run.proofs.run.close.Given as goal
@@ -10,4 +11,4 @@ invariant-loop-live l = record {
 }
 
 abbrev pub decreases-loop-live : goal.decreases-loop-live
-decreases-loop-live l = vec_len l.run.lives
+decreases-loop-live l = deque_len l.run.lives
