@@ -1,4 +1,5 @@
 pub mod Parts
+pub mod Passed
 pub mod Numbers
 pub mod Loop
 pub mod Choices

@@ -16,7 +16,7 @@ pub any_by_place : {X : Type 0} (p : X → Bool) (xs : List X) → list_any p xs
 any_by_place p [] = refl
 any_by_place p (x ∷ xs) = step (p x) (list_any p xs) (position_or_len p xs) (length xs) (any_by_place p xs)
 
-none_from : (b : Bool) (n : ℕ) → cond b (Some n) None ≡ None → b ≡ false
+pub none_from : (b : Bool) (n : ℕ) → cond b (Some n) None ≡ None → b ≡ false
 none_from true n e = absurd cc
 none_from false n e = refl
 
@@ -42,7 +42,7 @@ found p xs at e =
       within = grind (arith, nat_tests);
     }
 
-or_false : (a b : Bool) → (a || b) ≡ false → (a ≡ false) × (b ≡ false)
+pub or_false : (a b : Bool) → (a || b) ≡ false → (a ≡ false) × (b ≡ false)
 or_false true b e = absurd cc
 or_false false b e = (refl, e)
 

@@ -1,5 +1,5 @@
 // What one field of a line spells: a number, a name, a policy or a latch.
-ghost use Rattle.std.specs.Prelude.{◌≡◌, ◌+◌, ◌*◌, ◌≤◌, ◌^◌, ◌⊎◌, ◌&&◌, true, false, drop, length, Option, Some, None, Ok, IfSome, IfOk, MatchOption};
+ghost use Rattle.std.specs.Prelude.{◌≡◌, ◌+◌, ◌*◌, ◌≤◌, ◌^◌, ◌⊎◌, ◌&&◌, true, false, drop, length, take, Option, Some, None, Ok, IfSome, IfOk, MatchOption};
 ghost use Rattle.std.specs.Char.{is_ascii_digit};
 ghost use Rattle.std.specs.Str.{bytes_eq};
 ghost use Rattle.std.specs.Str.Parse.{digits_value};
@@ -24,6 +24,9 @@ use latch_model::same_bytes;
 use span_key::{Key, Memory, Span};
 use std::alloc::Global;
 
+// How many bytes of a text are searched at once.
+const BLOCK: usize = 16;
+
 /// Whether a text is this word.
 pub(crate) fn is_word(text: &[u8], word: &[u8]) -> bool
     ensures { result ≡ bytes_eq text.now word.now }
@@ -42,10 +45,34 @@ pub(crate) fn cut(text: &[u8], c: u8) -> Option<(&[u8], &[u8])>
     }
 }
 
+// The place of a byte in a text. Blocks are tested whole, and only from the first that has the byte on the text is searched byte by byte.
 fn index_of(text: &[u8], c: u8) -> Option<usize>
     ensures { result ≡ position (is_byte c) text.now }
 {
+    let passed = blocks_without(text, c);
+    match place_of(&text[passed..], c) {
+        None => None,
+        Some(at) => Some(passed + at),
+    }
+}
+
+// The same byte by byte.
+fn place_of(text: &[u8], c: u8) -> Option<usize>
+    ensures { result ≡ position (is_byte c) text.now }
+{
     text.iter().position(|b| *b == c)
+}
+
+// How many bytes there are in the blocks at the front of a text that don't have the byte.
+fn blocks_without(text: &[u8], c: u8) -> usize
+    ensures inside { result ≤ length text.now }
+    ensures without { has_byte c (take result text.now) ≡ false }
+{
+    let mut passed = 0;
+    while text.len() - passed >= BLOCK && !text[passed..passed + BLOCK].contains(&c) {
+        passed += BLOCK;
+    }
+    passed
 }
 
 // The number that a text of digits writes, where it fits 64 bits. Each byte is looked at once.
@@ -249,8 +276,11 @@ fn bounded(bounds: Bounds) -> Result<Span, FieldFault>
     ensures { Gives (λ s. s) result (bounded_at (bounds.key.items, bounds.end.items)) }
 {
     let Bounds { key, end } = bounds;
-    let (Ok(key), Ok(end)) = (Key::from_vec(key), Key::from_vec(end)) else {
+    if key.len() > KEY_LIMIT || end.len() > KEY_LIMIT {
         return Err(FaultCause::LongKey.fault());
+    }
+    let (Ok(key), Ok(end)) = (Key::from_vec(key), Key::from_vec(end)) else {
+        unreachable!()
     };
     if end.bytes().is_empty() {
         return Ok(Span::point(key));
