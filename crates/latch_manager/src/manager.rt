@@ -23,8 +23,12 @@ use sequence_core::metrics::Metrics;
 use signal_board::board::Pass;
 use std::alloc::Global;
 use std::marker::{Brand, Model, PhantomData};
-use std::sync::{Mutex, Wait};
+use std::sync::{Mutex, MutexGuard, Wait};
+use std::thread;
 use waiter::{Core, Ending, Granted, Mark, Opened, Optimist, Waiting};
+
+/// How often the desk is tried before a caller sleeps until it is free.
+const TRIES: u32 = 20;
 
 /// Which core and which desk belong together. A program makes its desk first, and then enters a function that is generic in its making.
 pub trait Making {
@@ -127,7 +131,7 @@ impl<N: Making> Manager<N> {
         ensures declined { IfErr result (λ e. Declined N.made pass.old mode request e.fault pass.new) }
         ensures handed_back { IfErr result (λ e. e.request ≡ request) }
     {
-        let mut guard = self.desk.lock(rt);
+        let mut guard = self.lock(rt);
         begin(&mut guard, alloc, &self.core, pass, request, mode)
     }
 
@@ -262,7 +266,7 @@ impl<N: Making> Manager<N> {
     pub fn metrics<R: Wait>(&self, rt: &R) -> Metrics
         ensures { CountsSome N.made result }
     {
-        let guard = self.desk.lock(rt);
+        let guard = self.lock(rt);
         counts(&guard)
     }
 
@@ -293,12 +297,23 @@ impl<N: Making> Manager<N> {
         self.wakes.raise(rt, id);
     }
 
+    // The desk, as soon as nobody else has it. A hold is short and a sleep is not, so before the caller sleeps it lets others run and tries again.
+    fn lock<R: Wait>(&self, rt: &R) -> MutexGuard<'_, Locked<N>> {
+        for _ in 0..TRIES {
+            if let Some(guard) = self.desk.try_lock() {
+                return guard;
+            }
+            thread::yield_now();
+        }
+        self.desk.lock(rt)
+    }
+
     fn end_one<R: Wait>(&self, rt: &R, pass: &mut Pass, ending: Ending)
         requires core { (pass.old.table ≡ N.made.core.signals) × (ending.core ≡ N.made.core) }
         requires session { ending.r.who ≡ pass.old.p.who }
         ensures finished { Finished N.made pass.old ending pass.new }
     {
-        let mut guard = self.desk.lock(rt);
+        let mut guard = self.lock(rt);
         guard.desk.end(&self.core, pass, ending);
     }
 }
