@@ -181,6 +181,7 @@ fn copy_node(rows: &Rows, seat: &mut RowSeat, row: u32, copy: u32, kind: u64, n:
 }
 
 /// The seat's reference to a live node becomes an owned node with the same links: the row itself where its count is 1, else a copy.
+#[inline(always)]
 pub fn own_node(rows: &Rows, seat: &mut RowSeat, row: u32, chain: &mut Chain) -> u32
     requires table { seat.old.table ≡ rows.now }
     requires node { (h : ℕ) × (xs : List Tree) × (tree_word (tree_of row seat.old.view.refs) ≡ suc row) × Stands h (tree_of row seat.old.view.refs) xs }

@@ -200,6 +200,7 @@ fn later_part_cmp(rows: &Rows, seat: &mut RowSeat, a: u32, end: bool, bytes: &[u
 }
 
 // The key, or the end, of an item against that of another, in the same way.
+#[inline(always)]
 fn parts_cmp(rows: &Rows, seat: &mut RowSeat, a: u32, a_end: bool, b: u32, b_end: bool) -> Ordering
     requires table { seat.old.table ≡ rows.now }
     requires one { (x : Item) × HasItem seat.old.view a x }
