@@ -35,6 +35,7 @@ pub(crate) fn is_word(text: &[u8], word: &[u8]) -> bool
 }
 
 /// What stands before the first byte `c` of a text, and what stands behind it.
+#[inline(always)]
 pub(crate) fn cut(text: &[u8], c: u8) -> Option<(&[u8], &[u8])>
     ensures { MatchOption result (has_byte c text.now ≡ false)
         (λ x. (has_byte c text.now ≡ true) × (x.0.now ≡ before_first (is_byte c) text.now) × (x.1.now ≡ after_first (is_byte c) text.now)) }
@@ -170,11 +171,22 @@ pub(crate) fn policy(text: &[u8]) -> Option<Policy>
     }
 }
 
-// Two hexadecimal digits a byte, in lower case.
+// Whether a byte is a hexadecimal digit in lower case.
+fn is_hex_digit(byte: u8) -> bool
+    ensures { result ≡ spec.is_hex byte }
+{
+    matches!(byte, b'0'..=b'9' | b'a'..=b'f')
+}
+
+// Whether all bytes of a text are such digits. It goes through the whole text, so that many bytes are tested at once.
 fn is_hex(text: &[u8]) -> bool
     ensures { result ≡ list_all spec.is_hex text.now }
 {
-    text.iter().all(|b| matches!(*b, b'0'..=b'9' | b'a'..=b'f'))
+    let mut all = true;
+    for byte in text {
+        all = all & is_hex_digit(*byte);
+    }
+    all
 }
 
 // The bytes, one or more, that a text spells in hexadecimal.
