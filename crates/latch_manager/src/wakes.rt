@@ -112,13 +112,14 @@ impl Slot {
         }
     }
 
-    // Raises the count, and wakes who sleeps, if anybody does.
+    // Raises the count, and wakes who sleeps, if anybody does. Who saw the old count under the lock has gone to sleep by the time that the lock was had, and
+    // is woken when it was let go: else he would wake only to wait for it.
     fn raise<R: Wait>(&self, rt: &R) {
         let _before = self.count.fetch_add(1, Ordering::SeqCst);
         if self.sleepers.load(Ordering::SeqCst) == 0 {
             return;
         }
-        let _guard = self.asleep.lock(rt);
+        drop(self.asleep.lock(rt));
         self.raised.notify_all();
     }
 }
