@@ -29,7 +29,7 @@ pub use crate::fault::{RunFault, run_fault};
 pub use crate::last::last_line;
 use crate::run::{StepRun, close, start};
 pub use crate::sizes::{FIRST_SIZES, PROGRAM_SIZES};
-use latch_model::history::Sizes;
+use latch_model::history::{History, Sizes};
 use script::command::Script;
 use std::alloc::Global;
 
@@ -41,17 +41,29 @@ pub fn run_step(alloc: Global, script: &Script) -> Result<Vec<u8>, RunFault>
     ensures ends { IfOk result (λ out. EndsLine out.items) }
     ensures stops { IfErr result (StopsBy (ScriptLacks script.now)) }
 {
-    match output_of(alloc, script, FIRST_SIZES) {
-        Err(RunFault::RowsOut { .. }) => output_of(alloc, script, PROGRAM_SIZES),
+    let (output, _history) = run_recorded(alloc, script)?;
+    Ok(output)
+}
+
+/// The same, and the history of the run, in which no request is open.
+pub fn run_recorded(alloc: Global, script: &Script) -> Result<(Vec<u8>, History), RunFault>
+    ensures output { IfOk result (λ x. x.0.items ≡ step_output script.now) }
+    ensures ends { IfOk result (λ x. EndsLine x.0.items) }
+    ensures history { IfOk result (λ x. x.1.entries ≡ (run_of start script.now).state.history) }
+    ensures stops { IfErr result (StopsBy (ScriptLacks script.now)) }
+{
+    match run_on(alloc, script, FIRST_SIZES) {
+        Err(RunFault::RowsOut { .. }) => run_on(alloc, script, PROGRAM_SIZES),
         answered => answered,
     }
 }
 
-// What a script writes on a desk of these sizes; its last line isn't looked at.
-fn output_of(alloc: Global, script: &Script, sizes: Sizes) -> Result<Vec<u8>, RunFault>
+// One run on a desk of these sizes; the last line of what it writes isn't looked at.
+fn run_on(alloc: Global, script: &Script, sizes: Sizes) -> Result<(Vec<u8>, History), RunFault>
     requires room { HasProgramRoom sizes }
     requires bounds { bad_size sizes ≡ None }
-    ensures output { IfOk result (λ out. out.items ≡ step_output script.now) }
+    ensures output { IfOk result (λ x. x.0.items ≡ step_output script.now) }
+    ensures history { IfOk result (λ x. x.1.entries ≡ (run_of start script.now).state.history) }
     ensures stops { IfErr result (StopsBy (ScriptLacks script.now)) }
 {
     let mut run = start(alloc, sizes)?;
@@ -60,7 +72,7 @@ fn output_of(alloc: Global, script: &Script, sizes: Sizes) -> Result<Vec<u8>, Ru
     let history = close(run);
     done?;
     summary(history.entries.as_slice()).summary_text(&mut out)?;
-    Ok(out)
+    Ok((out, history))
 }
 
 // All commands of a script, one after another.

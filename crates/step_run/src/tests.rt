@@ -1,5 +1,5 @@
 //! Scripts and what their step runs write; the worked scripts stand with the program.
-use crate::{FIRST_SIZES, RunFault, last_line, output_of, run_step};
+use crate::{FIRST_SIZES, RunFault, last_line, run_on, run_step};
 use script::read_script;
 use std::alloc::{AllocError, Global};
 use std::test::Fail;
@@ -45,7 +45,7 @@ fn a_script_for_which_the_first_rows_are_too_few(rt: HostRuntime) -> Result<(), 
     let text = many_latches(alloc)?;
     assert!(rt; text.len() <= 16_384);
     let script = read_script(alloc, text.as_slice())?;
-    let first = output_of(alloc, &script, FIRST_SIZES);
+    let first = run_on(alloc, &script, FIRST_SIZES);
     assert!(rt; matches!(first, Err(RunFault::RowsOut { .. })));
     let out = run_step(alloc, &script)?;
     let last = b"requests 55 granted 55 checked 0 poisoned 0 cancelled 0 never 0\n";
