@@ -9,6 +9,8 @@ pub mod Busy
 pub mod Drafts
 pub mod Packed
 pub mod Maps
+pub mod Openers
+pub mod Owners
 pub mod Noted
 pub mod Laws
 pub mod Walked

@@ -13,7 +13,7 @@ use Rattle.script.proofs.Choices.{false-true}
 use Rattle.script.proofs.Packed.{names_apart}
 
 -- what is kept of a name, where f has it of the name's number
-abbrev found : (ℕ → Option Opened) → List ℕ → Option Opened
+abbrev pub found : {V : Type 0} → (ℕ → Option V) → List ℕ → Option V
 found f q = cond (is_name q) (f (packed q)) None
 
 other_number : (name q : List ℕ) → IsTrue (is_name name) → IsTrue (is_name q) → same_name name q ≡ false → eqb (packed name) (packed q) ≡ false
@@ -22,7 +22,7 @@ other_number name q ok is other =
     let same : name ≡ q = names_apart name q ok is (eqb-true (packed name) (packed q) e) in
     false-true (sym other ∙ subst (λ (x : List ℕ). same_name name x ≡ true) same (same_self name)))
 
-changed_at : (f g : ℕ → Option Opened) (name : List ℕ) (w : Option Opened) (b : Bool) → IsTrue (is_name name)
+changed_at : {V : Type 0} (f g : ℕ → Option V) (name : List ℕ) (w : Option V) (b : Bool) → IsTrue (is_name name)
     → ((k : ℕ) → g k ≡ cond (eqb (packed name) k) w (f k)) → (q : List ℕ) → same_name name q ≡ b → found g q ≡ cond b w (found f q)
 changed_at f g name w true ok h q e =
     let same : name ≡ q = same_is name q e in
@@ -37,7 +37,7 @@ changed_at f g name w false ok h q e = by (is_name q) refl
     by false is = refl
 
 -- each name after a change at the number of one
-pub changed : {S T : Type 0} (m : HashMap ℕ Opened S) (n : HashMap ℕ Opened T) (key : ℕ) (name : List ℕ) (w : Option Opened) → key ≡ packed name
+pub changed : {V S T : Type 0} (m : HashMap ℕ V S) (n : HashMap ℕ V T) (key : ℕ) (name : List ℕ) (w : Option V) → key ≡ packed name
     → IsTrue (is_name name)
     → ((k : ℕ) → get nat_eq n k ≡ cond (eqb key k) w (get nat_eq m k))
     → (q : List ℕ) → found (get nat_eq n) q ≡ cond (same_name name q) w (found (get nat_eq m) q)
@@ -54,7 +54,7 @@ mapped f name q t true ok e =
 mapped f name q t false ok e = refl
 
 -- what is kept of a name stands at its number
-pub found_at : {S : Type 0} (m : HashMap ℕ Opened S) (key : ℕ) (name : List ℕ) → key ≡ packed name → IsTrue (is_name name)
+pub found_at : {V S : Type 0} (m : HashMap ℕ V S) (key : ℕ) (name : List ℕ) → key ≡ packed name → IsTrue (is_name name)
     → get nat_eq m key ≡ found (get nat_eq m) name
 found_at m key name e ok =
     let is : found (get nat_eq m) name ≡ get nat_eq m (packed name) = rw ok refl in

@@ -11,5 +11,6 @@ pub mod Names
 pub mod Outcomes
 pub mod Generated
 pub mod Follows
+pub mod Sessions
 pub mod Conflicting
 pub mod Worked

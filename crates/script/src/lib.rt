@@ -11,6 +11,7 @@ mod limits;
 mod line;
 mod make;
 mod read;
+mod sessions;
 pub mod spelling;
 mod text;
 

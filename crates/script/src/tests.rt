@@ -283,6 +283,20 @@ fn commands_in_their_order(rt: HostRuntime) -> Result<(), Fail> {
     Ok(())
 }
 
+#[test]
+fn commands_are_of_sessions(rt: HostRuntime) -> Result<(), Fail> {
+    let script = read_script(
+        rt.alloc(),
+        b"latch script 1\nmetrics\noptimistic 2 a wait w:61\nacquire 7 b wait w:62\ncheck a w:61\nrelease b\nacquire 7 c wait w:63\n\
+        poison c\nwait a\nrelease a\nmetrics\nacquire 2 d wait\nrelease d\nrelease c\nend\n",
+    )?;
+    assert_eq!(rt;
+        script.sessions(rt.alloc())?.as_slice(),
+        [0, 2, 7, 2, 7, 7, 7, 2, 2, 0, 2, 2, 7].as_slice()
+    );
+    Ok(())
+}
+
 // The generated script of eleven requests. The fifth and the tenth are optimistic, and the last one is a look.
 const ELEVEN: &[u8] = b"latch script 1
 acquire 1 q0 wait r:610f16@93 r:610c3d-610c40@764 r:610d98@461 r:6103ce@269
