@@ -3,6 +3,7 @@ ghost use Rattle.std.specs.Prelude.{◌≡◌, ◌≢◌, ◌≤◌, ◌⊎◌, 
 ghost use Rattle.std.specs.String.{string_bytes};
 ghost use Rattle.std.specs.Io.KnownBytes.{Appends};
 ghost use Rattle.port_io.specs.Devices.{AppendsPart, CountsFault};
+ghost use Rattle.latch_model.specs.Legal.{IsLegal};
 ghost use Rattle.script.specs.Generated.{generated};
 ghost use Rattle.script.specs.Reading.{script_at};
 ghost use Rattle.step_run.specs.Faults.{ScriptLacks, StopsBy};
@@ -10,7 +11,7 @@ ghost use Rattle.step_run.specs.Lines.{EndsLine};
 ghost use Rattle.step_run.specs.Steps.{step_output};
 ghost use Rattle.latch_tool.specs.Outcomes.{AnswersFault, EndsBy, EndsForRows};
 ghost use Rattle.latch_tool.specs.Outcomes.{HasRead, HasScript, Reading, Shows, WritesAll, WritesMade, WritesPart, WritesReplay, WritesSteps};
-ghost use Rattle.latch_tool.specs.Outcomes.{as_read, fault_line, reading, usage_line};
+ghost use Rattle.latch_tool.specs.Outcomes.{as_read, fault_line, reading, report_of, usage_line};
 ghost use Rattle.latch_tool.specs.Words.{form_of, reads, starts_workers};
 ghost use Rattle.latch_tool.specs.declared.form.Form.{Form};
 ghost use Rattle.latch_tool.specs.declared.run.Stop.TheVariants.{Memory as memory};
@@ -19,6 +20,7 @@ use crate::form::{Form, Layout, form_of};
 use crate::status::Status;
 use itoa::Buffer;
 use latch_manager::gate::NoGate;
+use latch_model::history::History;
 use port_io::{Failed, ReadFault, Sink, Source, read_all, write_piece};
 use replay::run::replay as run_sessions;
 use report::{render, render_json};
@@ -26,10 +28,12 @@ use script::command::Script;
 use script::fault::{ReadScript, ScriptFault};
 use script::spelling::generated_is_a_script;
 use script::{MAKE_LIMIT, TEXT_LIMIT, make_script, read_script};
+use span_key::Memory;
 use std::alloc::{AllocError, Global};
+use std::mem;
 use std::sync::Wait;
 use std::thread::Threads;
-use step_run::{RunFault, last_line, run_step};
+use step_run::{RunFault, last_line, run_recorded};
 
 /// The line for `help`, and for words that are no form.
 const USAGE: &[u8] = b"usage: latch step | replay [--json] | make N | help\n";
@@ -196,7 +200,7 @@ fn step_answer<S: Source>(alloc: Global, source: &mut S) -> Result<Answer, Stop>
     ensures { EndsBy Form.Step (reading S.left S.faults source.old source.new) result }
 {
     match read_input(alloc, source)? {
-        Input::Script(script) => match run_step(alloc, &script) {
+        Input::Script(script) => match stepped(alloc, script) {
             Ok(output) => Ok(done(output)),
             Err(fault) => stopped(alloc, fault),
         },
@@ -214,7 +218,7 @@ fn replay_answer<R: Threads + Wait + Sync, S: Source>(
     ensures { EndsBy (Form.Replay layout) (reading S.left S.faults source.old source.new) result }
 {
     match read_input(alloc, source)? {
-        Input::Script(script) => match shown(rt, alloc, layout, &script) {
+        Input::Script(script) => match shown(rt, alloc, layout, script) {
             Ok(report) => Ok(done(report)),
             Err(fault) => stopped(alloc, fault),
         },
@@ -222,21 +226,51 @@ fn replay_answer<R: Threads + Wait + Sync, S: Source>(
     }
 }
 
+// The step output of a script.
+fn stepped(alloc: Global, script: Script) -> Result<Vec<u8>, RunFault>
+    ensures output { IfOk result (λ out. out.items ≡ step_output script) }
+    ensures ends { IfOk result (λ out. EndsLine out.items) }
+    ensures stops { IfErr result (StopsBy (ScriptLacks script)) }
+{
+    let ran = run_recorded(alloc, &script);
+    leave(script);
+    let (output, history) = ran?;
+    leave(history);
+    Ok(output)
+}
+
 // The report of the history of a script's sessions.
 fn shown<R: Threads + Wait + Sync>(
     rt: &R,
     alloc: Global,
     layout: Layout,
-    script: &Script,
+    script: Script,
 ) -> Result<Vec<u8>, RunFault>
-    ensures shows { IfOk result (λ text. Shows layout script.now text.items) }
-    ensures stops { IfErr result (StopsBy (ScriptLacks script.now)) }
+    ensures shows { IfOk result (λ text. Shows layout script text.items) }
+    ensures stops { IfErr result (StopsBy (ScriptLacks script)) }
 {
-    let history = run_sessions(rt, alloc, script, &NoGate)?;
+    let ran = run_sessions(rt, alloc, &script, &NoGate);
+    leave(script);
+    let history = ran?;
+    let report = reported(alloc, layout, &history);
+    leave(history);
+    Ok(report?)
+}
+
+// The report of a history.
+fn reported(alloc: Global, layout: Layout, history: &History) -> Result<Vec<u8>, Memory>
+    requires { IsLegal history.now.entries history.now.sizes }
+    ensures { IfOk result (λ text. text.items ≡ report_of layout history.now.entries) }
+{
     match layout {
-        Layout::Lines => Ok(render(alloc, &history)?),
-        Layout::Json => Ok(render_json(alloc, &history)?),
+        Layout::Lines => render(alloc, history),
+        Layout::Json => render_json(alloc, history),
     }
+}
+
+// Gives a value up without freeing its parts one by one: the program ends soon, and its end frees all memory at once.
+fn leave<T: Drop>(value: T) {
+    mem::forget(value);
 }
 
 // Reads the input.
@@ -288,8 +322,7 @@ fn made_output(alloc: Global, requests: u32) -> Result<Vec<u8>, RunFault>
     ensures ends { IfOk result (λ out. EndsLine out.items) }
     ensures stops { IfErr result (StopsBy (ScriptLacks (generated requests))) }
 {
-    let script = make_script(alloc, requests)?;
-    run_step(alloc, &script)
+    stepped(alloc, make_script(alloc, requests)?)
 }
 
 // The answer that has an output.
