@@ -66,7 +66,7 @@ lent-whole len new items whole same =
 -- ---- the passes
 
 pub all-fresh : (table : TableId) (n : ℕ) (passes : List PassSays) → AreFresh table n passes → All (Fresh table) passes
-all-fresh table n passes f = all-of (Fresh table) passes (λ i p at. subst (Fresh table) (sym (f.each i p at)) (refl, refl, refl))
+all-fresh table n passes f = all-of (Fresh table) passes (λ i p at. subst (Fresh table) (sym (f.each i p at)) (refl, refl, refl, omega arith))
 
 same-length : (new old : List PassSays) → whos new ≡ whos old → length new ≡ length old
 same-length new old e = sym (length-map new (λ (p : PassSays). p.p.who)) ∙ (ap length e ∙ length-map old (λ (p : PassSays). p.p.who))

@@ -11,13 +11,14 @@ use Rattle.script.specs.Scripts.{IsScript}
 use Rattle.script.specs.declared.command.Command.{Command}
 use Rattle.script.specs.declared.command.Command.TheVariants.{Begin, Wait, Check, Poison, Release, Metrics}
 use Rattle.script.proofs.Busy.{same_is, same_self}
+use Rattle.script.proofs.Openers.{IsOn}
 use Rattle.signal_board.specs.Says.{PassSays}
 use Rattle.waiter.specs.Says.{CoreId}
 use Rattle.replay.specs.Blocks.{GrowsBy, IsLiveOf, LiveName, blocks_until, commands_until, new_block, with_more}
 use Rattle.replay.specs.Running.{IsAt, IsLiveAt, Keeps, NextHand, Ran, RunsTo, live_behind, turns_at, turns_of}
 use Rattle.replay.specs.Sessions.{Checking, Hand, Holding, Idle, Over, Standing, TurnsOf}
 use Rattle.replay.proofs.Blocks.{IsOnName, grows_block, opens_block, until_other, until_own}
-use Rattle.replay.proofs.LiveNames.{IsOn, live-released, live-stays, on_live-is_own, on_other-is_not, opens-live, opens-none_live}
+use Rattle.replay.proofs.LiveNames.{live-released, live-stays, on_live-is_own, on_other-is_not, opens-live, opens-none_live}
 
 false-true : false ≡ true → ⊥
 false-true e = cc

@@ -1,5 +1,5 @@
 -- In a script a session has at most one live name, and its commands on names are those on its live name.
-use Rattle.std.proofs.Common.{◌≡◌, ℕ, suc, ◌+◌, ◌<◌, ◌≤◌, ◌&&◌, ◌||◌, ◌==◌, Bool, true, false, not, cond, List, [], ◌∷◌, ◌++◌, take, slice_get}
+use Rattle.std.proofs.Common.{◌≡◌, ℕ, ◌+◌, ◌<◌, ◌&&◌, ◌||◌, ◌==◌, Bool, true, false, not, List, [], ◌∷◌, ◌++◌, take, slice_get}
 use Rattle.std.proofs.Common.{Option, Some, None, refl, sym, ◌∙◌, ap, subst, arith, inl, inr}
 use Rattle.std.specs.List.{list_any}
 use Rattle.std.proofs.lemmas.Bool.{cases_lt, eq-eqb, false_from_ne_true}
@@ -8,21 +8,20 @@ use Rattle.latch_model.specs.declared.latch.Latch.{Latch}
 use Rattle.latch_model.specs.declared.latch.Mode.{Mode}
 use Rattle.latch_model.specs.declared.latch.Policy.{Policy}
 use Rattle.latch_model.proofs.Growing.{list_any-prefix}
-use Rattle.latch_model.proofs.Lists.{In, In-take, list_any-In}
+use Rattle.latch_model.proofs.Lists.{In-take, list_any-In, list_any-take}
 use Rattle.latch_model.proofs.Members.{list_any_of, place-In, take_next}
-use Rattle.script.specs.Commands.{is_busy, is_checkable, is_live, is_used, leaves_live, live_cause, opens, opens_for, opens_live, releases}
-use Rattle.script.specs.Commands.{rule_cause, same_name}
+use Rattle.script.specs.Commands.{is_busy, is_live, is_used, leaves_live, opens, opens_for, opens_live, releases}
+use Rattle.script.specs.Commands.{same_name}
 use Rattle.script.specs.Follows.{is_of}
 use Rattle.script.specs.Scripts.{IsScript}
 use Rattle.script.specs.declared.command.Command.{Command}
 use Rattle.script.specs.declared.command.Command.TheVariants.{Begin, Wait, Check, Poison, Release, Metrics}
 use Rattle.script.proofs.Busy.{same_is, same_self}
+use Rattle.script.proofs.Choices.{and_both, and_parts, false-true}
+use Rattle.script.proofs.Openers.{In-place, IsOn, is_of_on, live_used, on_rule, opening_rules, opens_used, unused_at}
 use Rattle.replay.specs.Blocks.{IsLiveOf, LiveName}
 
 -- ---- tests of one command more
-
-false-true : false ≡ true → ⊥
-false-true e = cc
 
 some-more : (p : Command → Bool) (cs : List Command) (c : Command) → list_any p (cs ++ c ∷ []) ≡ (list_any p cs || p c)
 some-more p cs c = list_any-append p cs (c ∷ []) ∙ ap (λ (x : Bool). list_any p cs || x) (or_false (p c))
@@ -45,18 +44,6 @@ passes p cs c e = some-more p cs c ∙ by (list_any p cs) (p c) e
     by : (x y : Bool) → y ≡ true → (x || y) ≡ true
     by true y f = refl
     by false y f = f
-
-and_parts : (x y : Bool) → (x && y) ≡ true → (x ≡ true) × (y ≡ true)
-and_parts true y e = (refl, e)
-and_parts false y e = cc
-
-and_both : (x y : Bool) → x ≡ true → y ≡ true → (x && y) ≡ true
-and_both true y e f = f
-and_both false y e f = cc
-
--- a live name is used
-live_used : (cs : List Command) (n : List ℕ) → is_live cs n ≡ true → is_used cs n ≡ true
-live_used cs n e = (and_parts (is_used cs n) (not (list_any (releases n) cs)) e).0
 
 -- of a name that a command neither opens nor releases all stays
 module _ (cs : List Command) (w : ℕ) (c : Command) (n : List ℕ) (opened : opens n c ≡ false) (released : releases n c ≡ false) (by_it : opens_for w n c ≡ false)
@@ -89,69 +76,12 @@ live_busy cs w n l =
     let c = list_any_of (opens_for w n) cs l.1 in
     list_any-In (opens_live cs w) cs c.0 c.1 (opens_name w n cs c.0 l.0 c.2)
 
-opens_used : (w : ℕ) (n : List ℕ) (c : Command) → opens_for w n c ≡ true → opens n c ≡ true
-opens_used w n (Begin session name mode policy turns latches) e = (and_parts (session == w) (same_name name n) e).1
-opens_used w n (Wait name) e = cc
-opens_used w n (Check name latches) e = cc
-opens_used w n (Poison name) e = cc
-opens_used w n (Release name) e = cc
-opens_used w n Metrics e = cc
-
 opened_used : (cs : List Command) (w : ℕ) (n : List ℕ) → list_any (opens_for w n) cs ≡ true → is_used cs n ≡ true
 opened_used cs w n e =
     let c = list_any_of (opens_for w n) cs e in
     list_any-In (opens n) cs c.0 c.1 (opens_used w n c.0 c.2)
 
--- ---- what the rules say of a command
-
-opening_rules : (cs : List Command) (session : ℕ) (name : List ℕ) (mode : Mode) (policy : Policy) (turns : Option ℕ) (latches : List Latch) →
-    rule_cause cs (Begin session name mode policy turns latches) ≡ None → (is_busy cs session ≡ false) × (is_used cs name ≡ false)
-opening_rules cs session name mode policy turns latches e = by (is_busy cs session) (is_used cs name) e
-  where
-    by : (x y : Bool) → cond {A = Option ℕ} x (Some 12) (cond {A = Option ℕ} y (Some 13) None) ≡ None → (x ≡ false) × (y ≡ false)
-    by true y f = cc
-    by false true f = cc
-    by false false f = (refl, refl)
-
-live_rule : (cs : List Command) (n : List ℕ) → live_cause cs n ≡ None → is_live cs n ≡ true
-live_rule cs n e = by (is_live cs n) e
-  where
-    by : (x : Bool) → cond {A = Option ℕ} x None (Some 14) ≡ None → x ≡ true
-    by true f = refl
-    by false f = cc
-
-check_rule : (cs : List Command) (n : List ℕ) (latches : List Latch) → rule_cause cs (Check n latches) ≡ None → is_live cs n ≡ true
-check_rule cs n latches e = by (is_live cs n) (is_checkable cs n) e
-  where
-    by : (x y : Bool) → cond {A = Option ℕ} x (cond {A = Option ℕ} y None (Some 15)) (Some 14) ≡ None → x ≡ true
-    by true y f = refl
-    by false y f = cc
-
--- A command on this name: not an opening, and not `metrics`.
-abbrev pub IsOn : List ℕ → Command → Type 0
-IsOn n (Begin session name mode policy turns latches) = ⊥
-IsOn n (Wait name) = name ≡ n
-IsOn n (Check name latches) = name ≡ n
-IsOn n (Poison name) = name ≡ n
-IsOn n (Release name) = name ≡ n
-IsOn n Metrics = ⊥
-
-on_rule : (cs : List Command) (n : List ℕ) (c : Command) → IsOn n c → rule_cause cs c ≡ None → is_live cs n ≡ true
-on_rule cs n (Begin session name mode policy turns latches) on e = absurd on
-on_rule cs n (Wait name) on e = ap (is_live cs) (sym on) ∙ live_rule cs name e
-on_rule cs n (Check name latches) on e = ap (is_live cs) (sym on) ∙ check_rule cs name latches e
-on_rule cs n (Poison name) on e = ap (is_live cs) (sym on) ∙ live_rule cs name e
-on_rule cs n (Release name) on e = ap (is_live cs) (sym on) ∙ live_rule cs name e
-on_rule cs n Metrics on e = absurd on
-
-is_of_on : (cs : List Command) (w : ℕ) (n : List ℕ) (c : Command) → IsOn n c → is_of cs w c ≡ list_any (opens_for w n) cs
-is_of_on cs w n (Begin session name mode policy turns latches) on = absurd on
-is_of_on cs w n (Wait name) on = ap (λ (m : List ℕ). list_any (opens_for w m) cs) on
-is_of_on cs w n (Check name latches) on = ap (λ (m : List ℕ). list_any (opens_for w m) cs) on
-is_of_on cs w n (Poison name) on = ap (λ (m : List ℕ). list_any (opens_for w m) cs) on
-is_of_on cs w n (Release name) on = ap (λ (m : List ℕ). list_any (opens_for w m) cs) on
-is_of_on cs w n Metrics on = absurd on
-
+-- a release of a name is a command on it
 releases_on : (n : List ℕ) (c : Command) → releases n c ≡ true → IsOn n c
 releases_on n (Begin session name mode policy turns latches) e = cc
 releases_on n (Wait name) e = cc
@@ -162,31 +92,6 @@ releases_on n Metrics e = cc
 
 -- ---- in a script
 
-prefix_of : {X : Type 0} (p : X → Bool) (xs : List X) (i j : ℕ) → i ≤ j → list_any p (take i xs) ≡ true → list_any p (take j xs) ≡ true
-prefix_of p xs i j le e =
-    let at = list_any_of p (take i xs) e in
-    let k = place-In xs i at.0 at.1 in
-    let lt : k.0 < i = k.1 in
-    list_any-In p (take j xs) at.0 (In-take xs k.0 j at.0 k.2 (omega arith)) at.2
-
-In-place : {X : Type 0} (xs : List X) (x : X) → In x xs → (k : ℕ) × (slice_get xs k ≡ Some x)
-In-place [] x h = absurd h
-In-place (y ∷ ys) x (inl e) = (0, ap Some e)
-In-place (y ∷ ys) x (inr h) = let w = In-place ys x h in (suc w.0, w.1)
-
--- a name wasn't used in front of its opening
-unused_at : (cs : List Command) → IsScript cs → (w : ℕ) (n : List ℕ) (c : Command) (k : ℕ) → slice_get cs k ≡ Some c → opens_for w n c ≡ true
-    → is_used (take k cs) n ≡ false
-unused_at cs s w n (Begin session name mode policy turns latches) k at e =
-    let parts = and_parts (session == w) (same_name name n) e in
-    ap (is_used (take k cs)) (sym (same_is name n parts.1))
-    ∙ (opening_rules (take k cs) session name mode policy turns latches (s.rules k (Begin session name mode policy turns latches) at)).1
-unused_at cs s w n (Wait name) k at e = cc
-unused_at cs s w n (Check name latches) k at e = cc
-unused_at cs s w n (Poison name) k at e = cc
-unused_at cs s w n (Release name) k at e = cc
-unused_at cs s w n Metrics k at e = cc
-
 module _ (cs : List Command) (s : IsScript cs) where
   -- a name that isn't used was never released
   unused-unreleased : (i : ℕ) (n : List ℕ) → is_used (take i cs) n ≡ false → list_any (releases n) (take i cs) ≡ false
@@ -196,7 +101,7 @@ module _ (cs : List Command) (s : IsScript cs) where
       let k = place-In cs i at.0 at.1 in
       let lt : k.0 < i = k.1 in
       let live = on_rule (take k.0 cs) n at.0 (releases_on n at.0 at.2) (s.rules k.0 at.0 k.2) in
-      false-true (sym none ∙ prefix_of (opens n) cs k.0 i (omega arith) (live_used (take k.0 cs) n live)))
+      false-true (sym none ∙ list_any-take (opens n) cs k.0 i (omega arith) (live_used (take k.0 cs) n live)))
 
   module _ (i w : ℕ) (c : Command) (at : slice_get cs i ≡ Some c) where
     abbrev front : List Command
@@ -216,7 +121,7 @@ module _ (cs : List Command) (s : IsScript cs) where
         let j = In-place cs o.0 o.1 in
         elim (cases_lt j.0 i) [
           | inl lt ↦ other (live, list_any-In (opens_for w n) front o.0 (In-take cs j.0 i o.0 j.1 lt) o.2)
-          | inr le ↦ false-true (sym (unused_at cs s w n o.0 j.0 j.1 o.2) ∙ prefix_of (opens n) cs i j.0 le (live_used front n live))
+          | inr le ↦ false-true (sym (unused_at cs s w n o.0 j.0 j.1 o.2) ∙ list_any-take (opens n) cs i j.0 le (live_used front n live))
         ])
 
     -- ---- the live name of a session, one command further

@@ -1,48 +1,72 @@
--- By its live name a session tells which commands are its own; and what a script says of each.
-use Rattle.std.proofs.Common.{◌≡◌, ℕ, zero, suc, ◌≤◌, Bool, true, false, List, [], ◌∷◌, length, take, slice_get, Option, Some, None, IfSome}
-use Rattle.std.proofs.Common.{refl, sym, ◌∙◌, ap, subst, inl, inr}
+-- The list of sessions tells which commands are a session's own; and what a script says of each.
+use Rattle.std.proofs.Common.{◌≡◌, ◌≢◌, ℕ, zero, suc, ◌+◌, ◌-◌, ◌==◌, ◌<◌, ◌≤◌, true, false, List, [], ◌∷◌, length, slice_get, Option, Some, None, IfSome}
+use Rattle.std.proofs.Common.{refl, sym, ◌∙◌, ap, subst, arith, inl, inr}
+use Rattle.std.proofs.lemmas.Bool.{cases_lt, eq-eqb, eqb-true, false_from_ne_true}
 use Rattle.std.proofs.lemmas.List.Elements.{All-contains}
 use Rattle.std.proofs.Math.Seq.{take-length}
 use Rattle.latch_model.proofs.Lists.{Contains-from_In, In}
-use Rattle.script.specs.Commands.{same_name}
+use Rattle.latch_model.proofs.Members.{get_below}
 use Rattle.script.specs.Follows.{blocks_of, is_of}
 use Rattle.script.specs.Scripts.{IsCommand, IsScript}
+use Rattle.script.specs.Sessions.{AreSessions}
 use Rattle.script.specs.declared.limits.TheConstants.{TURN_LIMIT}
 use Rattle.script.specs.declared.command.Command.{Command}
 use Rattle.script.specs.declared.command.Command.TheVariants.{Begin, Wait, Check, Poison, Release, Metrics}
-use Rattle.script.proofs.Busy.{same_is, same_self}
 use Rattle.signal_board.specs.Says.{PassSays}
 use Rattle.waiter.specs.Says.{CoreId}
-use Rattle.replay.specs.Blocks.{IsLiveOf, LiveName}
-use Rattle.replay.specs.Running.{Fresh, IsAt, IsFit, IsLiveAt, SomeTurns, is_live_name, is_own, opened_by, turns_at, turns_of}
+use Rattle.replay.specs.Blocks.{LiveName}
+use Rattle.replay.specs.Running.{Fresh, IsAt, IsFit, NoneBetween, SomeTurns, turns_at, turns_of}
 use Rattle.replay.specs.Sessions.{Hand, Idle, Standing}
 use Rattle.replay.proofs.Blocks.{until_all}
-use Rattle.replay.proofs.LiveNames.{IsOn, live-start, none_live-at_end, on_live-is_own, on_other-is_not}
+use Rattle.replay.proofs.Commands.{at-other}
+use Rattle.replay.proofs.LiveNames.{live-start, none_live-at_end}
 
-false-true : false ≡ true → ⊥
-false-true e = cc
+-- ---- by the list of sessions
 
--- ---- commands on names
+-- the command at a place with the session's number is one of it
+pub own-at : (cs : List Command) (ss : List ℕ) (w k : ℕ) → AreSessions cs ss → 1 ≤ w → slice_get ss k ≡ Some w → (c : Command) → slice_get cs k ≡ Some c
+    → is_of cs w c ≡ true
+own-at cs ss w k are low at c at_c = are.each k w c at_c at w low ∙ eq-eqb w w refl
 
-module _ (cs : List Command) (s : IsScript cs) (i w : ℕ) (c : Command) (at : slice_get cs i ≡ Some c) where
-  named : (name : List ℕ) → IsOn name c → (live : Option ℕ) (bs : _) (hand : Hand) → IsLiveAt cs w i live bs hand → is_live_name cs live name ≡ is_of cs w c
-  named name on None bs hand l = sym (on_other-is_not cs s i w c at name on (l.0 name))
-  named name on (Some k) bs hand l = ap (opened_by name) l.5 ∙ by (same_name l.0 name) refl
-    where
-      by : (x : Bool) → same_name l.0 name ≡ x → same_name l.0 name ≡ is_of cs w c
-      by true e = e ∙ sym (on_live-is_own cs s i w c at name on (subst (IsLiveOf (take i cs) w) (same_is l.0 name e) l.6.0))
-      by false e =
-          e ∙ sym (on_other-is_not cs s i w c at name on
-          (λ h. false-true (sym e ∙ (ap (λ (n : List ℕ). same_name l.0 n) (l.6.1 name h) ∙ same_self l.0))))
+-- and one at a place with another number is not
+other-at : (cs : List Command) (ss : List ℕ) (w k s : ℕ) (c : Command) → AreSessions cs ss → 1 ≤ w → slice_get cs k ≡ Some c → slice_get ss k ≡ Some s
+    → slice_get ss k ≢ Some w → is_of cs w c ≡ false
+other-at cs ss w k s c are low at_c at_s differs =
+    are.each k s c at_c at_s w low ∙ false_from_ne_true (s == w) (λ e. differs (at_s ∙ ap Some (eqb-true s w e)))
 
-pub own-is : (cs : List Command) → IsScript cs → (i w : ℕ) (c : Command) → slice_get cs i ≡ Some c → (core : CoreId) (pass : PassSays) (live : Option ℕ)
-    (hand : Hand) → IsAt cs core w i pass live hand → is_own cs live w c ≡ is_of cs w c
-own-is cs s i w (Begin session name mode policy turns latches) at core pass live hand a = refl
-own-is cs s i w (Wait name) at core pass live hand a = named cs s i w (Wait name) at name refl live _ hand a.named
-own-is cs s i w (Check name latches) at core pass live hand a = named cs s i w (Check name latches) at name refl live _ hand a.named
-own-is cs s i w (Poison name) at core pass live hand a = named cs s i w (Poison name) at name refl live _ hand a.named
-own-is cs s i w (Release name) at core pass live hand a = named cs s i w (Release name) at name refl live _ hand a.named
-own-is cs s i w Metrics at core pass live hand a = refl
+-- a search that found another number at place k
+pub none-more : (ss : List ℕ) (w i k s : ℕ) → slice_get ss k ≡ Some s → (s == w) ≡ false → NoneBetween ss w i k → NoneBetween ss w i (k + 1)
+none-more ss w i k s at_s other none j from below e =
+    elim (cases_lt j k) [
+      | inl lt ↦ none j from lt e
+      | inr le ↦
+          let here : j ≡ k = omega arith in
+          found (sym at_s ∙ (ap (slice_get ss) (sym here) ∙ e))
+    ]
+  where
+    found : Some s ≡ Some w → ⊥
+    found f = let same : s ≡ w = cc in let true_too = eq-eqb s w same in cc
+
+-- So a session stands behind the commands of others as it stood in front of them.
+module _ (cs : List Command) (s : IsScript cs) (ss : List ℕ) (are : AreSessions cs ss) (core : CoreId) (w : ℕ) (low : 1 ≤ w) (pass : PassSays)
+    (live : Option ℕ) (hand : Hand) (i : ℕ) (at : IsAt cs core w i pass live hand) where
+  at-behind : (d : ℕ) → i + d ≤ length cs → NoneBetween ss w i (i + d) → IsAt cs core w (i + d) pass live hand
+  at-behind zero le others = let e : i ≡ i + 0 = omega arith in subst (λ (n : ℕ). IsAt cs core w n pass live hand) e at
+  at-behind (suc d) le others =
+      let here = at-behind d (omega arith) (λ j from below. others j from (omega arith)) in
+      let inside : i + d < length cs = omega arith in
+      let size = are.size in
+      let inside_too : i + d < length ss = omega arith in
+      let c = get_below cs (i + d) inside in
+      let n = get_below ss (i + d) inside_too in
+      let other = other-at cs ss w (i + d) n.0 c.0 are low c.1 n.1 (others (i + d) (omega arith) (omega arith)) in
+      let e : i + d + 1 ≡ i + suc d = omega arith in
+      subst (λ (n : ℕ). IsAt cs core w n pass live hand) e (at-other cs s core w (i + d) pass live hand c.0 c.1 other here)
+
+  pub at-next : (k : ℕ) → i ≤ k → k ≤ length cs → NoneBetween ss w i k → IsAt cs core w k pass live hand
+  at-next k from le others =
+      let e : i + (k - i) ≡ k = omega arith in
+      subst (λ (n : ℕ). IsAt cs core w n pass live hand) e (at-behind (k - i) (omega arith) (λ j up below. others j up (omega arith)))
 
 -- ---- what a script says of its commands
 

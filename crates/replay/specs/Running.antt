@@ -1,12 +1,11 @@
 -- What a session does with one command, and where it stands in front of each.
-use Rattle.std.specs.Prelude.{◌≡◌, ◌≢◌, ℕ, zero, suc, ◌+◌, ◌==◌, ◌≤◌, Bool, false, List, [], ◌∷◌, ◌++◌, Option, Some, None, IfSome, length, map}
+use Rattle.std.specs.Prelude.{◌≡◌, ◌≢◌, ℕ, zero, suc, ◌+◌, ◌<◌, ◌≤◌, List, [], ◌∷◌, ◌++◌, Option, Some, None, IfSome, length, map}
 use Rattle.std.specs.Prelude.{slice_get, take}
 use Rattle.atomic_table.specs.Seated.{TableId}
 use Rattle.latch_model.specs.declared.latch.Latch.{Latch}
 use Rattle.latch_model.specs.declared.latch.Mode.{Mode}
 use Rattle.latch_model.specs.declared.latch.Policy.{Policy}
 use Rattle.latch_model.specs.declared.latch.TheConstants.Latches.{LIMIT}
-use Rattle.script.specs.Commands.{opens}
 use Rattle.script.specs.Follows.{Block, Follows}
 use Rattle.script.specs.declared.command.Command.{Command}
 use Rattle.script.specs.declared.command.Command.TheVariants.{Begin, Wait, Check, Poison, Release, Metrics}
@@ -18,9 +17,9 @@ use Rattle.replay.specs.Sessions.{Hand, Idle, Standing, TurnsOf}
 -- The sizes at which the program runs a script.
 pub use Rattle.step_run.specs.Runs.{program_sizes}
 
--- A pass of a new desk: it has no entry yet, and was shown none.
+-- A pass of a new desk, of a session from 1 on: it has no entry yet, and was shown none.
 abbrev pub Fresh : TableId → PassSays → Type 0
-Fresh table pass = (pass.table ≡ table) × (pass.p.shown ≡ []) × (pass.p.mine ≡ [])
+Fresh table pass = (pass.table ≡ table) × (pass.p.shown ≡ []) × (pass.p.mine ≡ []) × (1 ≤ pass.p.who)
 
 -- A pass stays that of its board and of its session.
 abbrev pub Keeps : PassSays → PassSays → Type 0
@@ -101,22 +100,13 @@ IsFit (Poison name) = Unit {0}
 IsFit (Release name) = Unit {0}
 IsFit Metrics = Unit {0}
 
--- whether a name is the one that a command opened, and whether a command is one of a session by its live name
-abbrev pub opened_by : List ℕ → Option Command → Bool
-opened_by name None = false
-opened_by name (Some c) = opens name c
+-- In a list of the sessions of commands none is w from place i up to place k; and the place of the next one that is, from place i on.
+abbrev pub NoneBetween : List ℕ → ℕ → ℕ → ℕ → Type 0
+NoneBetween ss w i k = (j : ℕ) → i ≤ j → j < k → slice_get ss j ≢ Some w
 
-abbrev pub is_live_name : List Command → Option ℕ → List ℕ → Bool
-is_live_name cs None name = false
-is_live_name cs (Some k) name = opened_by name (slice_get cs k)
-
-abbrev pub is_own : List Command → Option ℕ → ℕ → Command → Bool
-is_own cs live w (Begin session name mode policy turns latches) = session == w
-is_own cs live w (Wait name) = is_live_name cs live name
-is_own cs live w (Check name latches) = is_live_name cs live name
-is_own cs live w (Poison name) = is_live_name cs live name
-is_own cs live w (Release name) = is_live_name cs live name
-is_own cs live w Metrics = false
+abbrev pub IsNext : List ℕ → ℕ → ℕ → Option ℕ → Type 0
+IsNext ss w i None = NoneBetween ss w i (length ss)
+IsNext ss w i (Some k) = (i ≤ k) × (slice_get ss k ≡ Some w) × NoneBetween ss w i k
 
 -- The numbers of some passes, in order.
 abbrev pub whos : List PassSays → List ℕ

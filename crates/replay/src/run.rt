@@ -47,7 +47,16 @@ pub fn sessions<N: Making + Send + Sync, G: Gate, R: Threads + Wait + Sync>(
     ensures follows { OnOk result (All (FollowsIn script.now) passes.new) }
     ensures stops { IfErr result (StopsBy (ScriptLacks script.now)) }
 {
-    crew(rt, alloc, script.commands(), manager, passes, gate)
+    let sessions = script.sessions(alloc)?;
+    crew(
+        rt,
+        alloc,
+        script.commands(),
+        sessions.as_slice(),
+        manager,
+        passes,
+        gate,
+    )
 }
 
 // The manager of a making, and what becomes of its passes.

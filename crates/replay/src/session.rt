@@ -1,5 +1,5 @@
 // The commands of a session, one after another.
-ghost use Rattle.std.specs.Prelude.{◌≡◌, ◌≢◌, ℕ, ◌+◌, ◌<◌, ◌≤◌, ◌^◌, [], ◌∷◌, ◌++◌, true, List, Option, Some, length, slice_get, IfErr, IfOk, OnOk, OnErr};
+ghost use Rattle.std.specs.Prelude.{◌≡◌, ◌≢◌, ℕ, ◌+◌, ◌<◌, ◌≤◌, ◌^◌, [], ◌∷◌, ◌++◌, true, List, Option, Some, length, slice_get, IfErr, IfOk, IfSome, OnOk, OnErr};
 ghost use Rattle.latch_model.specs.declared.latch.TheConstants.Latches.{LIMIT};
 ghost use Rattle.script.specs.Follows.{Block, Follows, blocks_of, is_of};
 ghost use Rattle.replay.specs.Blocks.{new_block};
@@ -7,11 +7,11 @@ ghost use Rattle.script.specs.Scripts.{IsScript};
 ghost use Rattle.sequence_core.specs.Says.{LacksRows};
 ghost use Rattle.signal_board.specs.Rule.{open_count, own};
 ghost use Rattle.signal_board.specs.Says.{PassSays};
-ghost use Rattle.replay.specs.Running.{Fresh, IsAt, IsFit, Keeps, NextHand, Ran, SomeTurns, is_live_name, is_own, live_behind};
+ghost use Rattle.replay.specs.Running.{Fresh, IsAt, IsFit, IsNext, Keeps, NextHand, Ran, SomeTurns, live_behind};
 ghost use Rattle.replay.specs.Running.{turns_at, turns_of};
 ghost use Rattle.step_run.specs.Faults.{OpeningLacks, ScriptLacks, StopsBy};
 ghost use Rattle.step_run.specs.Runs.{HasProgramRoom};
-ghost use Rattle.script.specs.Commands.{opens};
+ghost use Rattle.script.specs.Sessions.{AreSessions};
 ghost use Rattle.script.specs.declared.command.Command.{Command as AnyCommand};
 ghost use Rattle.replay.specs.Sessions.{HandGiven, Standing};
 ghost use Rattle.replay.specs.declared.hand.Hand.{Hand as IsHand};
@@ -22,7 +22,7 @@ use latch_manager::gate::Gate;
 use latch_manager::manager::{Making, Manager};
 use latch_model::latch::{Latches, Mode, Policy};
 use latch_model::request::Request;
-use script::command::{Command, Name};
+use script::command::Command;
 use signal_board::board::Pass;
 use span_key::Memory;
 use std::alloc::Global;
@@ -154,18 +154,20 @@ fn declared(alloc: Global, line: u32, policy: Policy, latches: &Latches) -> Resu
     }
 }
 
-/// Runs the commands of the session of this pass. Where rows or memory are refused the session ends what it has open and stops. Its entries are then its own
-/// in what its pass has been shown.
+/// Runs the commands of the session of this pass, which the list of sessions tells. Where rows or memory are refused the session ends what it has open and
+/// stops. Its entries are then its own in what its pass has been shown.
 pub(crate) fn run_session<N: Making, G: Gate, R: Wait>(
     rt: &R,
     alloc: Global,
     commands: &[Command],
+    sessions: &[u32],
     manager: &Manager<N>,
     pass: &mut Pass,
     gate: &G,
 ) -> Result<(), RunFault>
     requires script { IsScript commands.now }
     requires few { length commands.now < 2 ^ 31 }
+    requires sessions { AreSessions commands.now sessions.now }
     requires sizes { HasProgramRoom N.made.sizes }
     requires fresh { Fresh N.made.core.signals pass.old }
     ensures keeps { Keeps pass.old pass.new }
@@ -174,7 +176,7 @@ pub(crate) fn run_session<N: Making, G: Gate, R: Wait>(
     ensures follows { OnOk result (Follows pass.new.p.shown pass.new.p.who commands.now) }
     ensures stops { IfErr result (StopsBy (ScriptLacks commands.now)) }
 {
-    let ran = run_commands(rt, alloc, commands, manager, pass, gate);
+    let ran = run_commands(rt, alloc, commands, sessions, manager, pass, gate);
     look_back(manager, pass);
     ran
 }
@@ -188,17 +190,19 @@ fn look_back<N: Making>(manager: &Manager<N>, pass: &mut Pass)
     let _seen = manager.core().board.front(pass);
 }
 
-// The commands in their order, of which those of other sessions are passed over.
+// The commands of the session in their order. Those of other sessions are passed over by the list of sessions alone.
 fn run_commands<N: Making, G: Gate, R: Wait>(
     rt: &R,
     alloc: Global,
     commands: &[Command],
+    sessions: &[u32],
     manager: &Manager<N>,
     pass: &mut Pass,
     gate: &G,
 ) -> Result<(), RunFault>
     requires script { IsScript commands.now }
     requires few { length commands.now < 2 ^ 31 }
+    requires sessions { AreSessions commands.now sessions.now }
     requires sizes { HasProgramRoom N.made.sizes }
     requires fresh { Fresh N.made.core.signals pass.old }
     ensures keeps { Keeps pass.old pass.new }
@@ -209,17 +213,18 @@ fn run_commands<N: Making, G: Gate, R: Wait>(
     let who = pass.who();
     let mut hand = Hand::Idle;
     let mut live = None;
-    for i in 0..commands.len() {
-        // What is in hand is large, so it is not handed on at the commands of others.
-        if is_own(commands, live, who, &commands[i]) {
-            match run_own(rt, alloc, commands, manager, pass, gate, who, hand, live, i) {
-                Ok((next, now)) => {
-                    hand = next;
-                    live = now;
-                }
-                Err(fault) => return Err(fault),
+    let mut from = 0;
+    while let Some(own) = next_of(sessions, from, who) {
+        match run_own(
+            rt, alloc, commands, manager, pass, gate, who, hand, live, own,
+        ) {
+            Ok((next, now)) => {
+                hand = next;
+                live = now;
             }
+            Err(fault) => return Err(fault),
         }
+        from = own + 1;
     }
     release(rt, manager, pass, hand);
     Ok(())
@@ -243,7 +248,7 @@ fn run_own<N: Making, G: Gate, R: Wait>(
     requires inside { i < length commands.now }
     requires sizes { HasProgramRoom N.made.sizes }
     requires at { IsAt commands.now N.made.core who i pass.old live hand }
-    requires own { (d : AnyCommand) → slice_get commands.now i ≡ Some d → is_own commands.now live who d ≡ true }
+    requires own { (d : AnyCommand) → slice_get commands.now i ≡ Some d → is_of commands.now who d ≡ true }
     ensures keeps { Keeps pass.old pass.new }
     ensures at { IfOk result (λ next. IsAt commands.now N.made.core who (i + 1) pass.new next.1 next.0) }
     ensures ended { OnErr result (open_count pass.new.p.mine ≡ 0) }
@@ -261,45 +266,17 @@ fn run_own<N: Making, G: Gate, R: Wait>(
     }
 }
 
-// Whether a command is one of the session: it opens a request of it, or is on its live name.
-fn is_own(commands: &[Command], live: Option<usize>, who: u32, command: &Command) -> bool
-    ensures { result ≡ is_own commands.now live who command.now }
+// The place of the session's next command, from this place on.
+fn next_of(sessions: &[u32], from: usize, who: u32) -> Option<usize>
+    ensures next { IsNext sessions.now who from result }
+    ensures inside { IfSome result (λ k. k < length sessions.now) }
 {
-    match command {
-        Command::Begin { session, .. } => *session == who,
-        Command::Wait { name } => is_live(commands, live, name),
-        Command::Check { name, .. } => is_live(commands, live, name),
-        Command::Poison { name } => is_live(commands, live, name),
-        Command::Release { name } => is_live(commands, live, name),
-        Command::Metrics => false,
+    for place in from..sessions.len() {
+        if sessions[place] == who {
+            return Some(place);
+        }
     }
-}
-
-// Whether this is the live name, which was opened by the command at this place.
-fn is_live(commands: &[Command], live: Option<usize>, name: &Name) -> bool
-    ensures { result ≡ is_live_name commands.now live name.now }
-{
-    match live {
-        None => false,
-        Some(place) => match commands.get(place) {
-            Some(opening) => is_opening_of(opening, name),
-            None => false,
-        },
-    }
-}
-
-// Whether a command opens this name.
-fn is_opening_of(opening: &Command, name: &Name) -> bool
-    ensures { result ≡ opens name.now opening.now }
-{
-    match opening {
-        Command::Begin { name: opened, .. } => opened.is(name),
-        Command::Wait { .. } => false,
-        Command::Check { .. } => false,
-        Command::Poison { .. } => false,
-        Command::Release { .. } => false,
-        Command::Metrics => false,
-    }
+    None
 }
 
 // The turns of the block that the command at this place began.

@@ -1,54 +1,40 @@
-use Rattle.std.proofs.Common.{◌≡◌, ℕ, ◌+◌, ◌<◌, length, refl, arith, sym, ◌∙◌, ap, subst}
-use Rattle.std.proofs.lemmas.Option.{slice_get_read}
+use Rattle.std.proofs.Common.{ℕ, ◌≤◌, length, arith, sym, subst}
 use Rattle.script.specs.Follows.{blocks_of}
 use Rattle.signal_board.specs.Says.{PassSays}
-use Rattle.replay.specs.Running.{IsAt, is_own}
+use Rattle.replay.specs.Running.{IsAt, NoneBetween}
 use Rattle.replay.specs.Sessions.{Idle, Standing}
-use Rattle.replay.proofs.Commands.{at-other}
-use Rattle.replay.proofs.Owning.{idle-at_end, own-is, stands-at_end}
+use Rattle.replay.proofs.Owning.{at-next, idle-at_end, own-at, stands-at_end}
 use Rattle.replay.proofs.session.run_commands.Goals as goal
-use Rattle.replay.proofs.session.run_commands.Goals.{then-is_own+in-Ok, else-is_own}
 
--- Behind a command of the session it stands as that left it, and behind another's as before.
-pub loop-i-preserved : goal.loop-i-preserved
-loop-i-preserved g c =
+-- Behind the commands of others the session stands as in front of them.
+pub run_own-requires-clause-at : goal.run_own-requires-clause-at
+run_own-requires-clause-at g c κs within =
     let cs = c.args.commands.now in
-    let who = c.args.pass.now.p.who in
-    let at = c.loop-i.invariant.2 in
-    let same = c.loop-i.invariant.3 in
-    let more = c.loop-i-test.true in
-    let inside : c.loop-i.i < length cs = omega arith in
-    elim c.if-is_own.branch [
-      | then-is_own+in-Ok w ↦
-          rw (w.pass-is, w.hand-is, w.live-is) (
-            omega arith,
-            refl,
-            subst (λ (n : ℕ). IsAt cs g.N.Making.made.core n (c.loop-i.i + 1) w.run_own.new.pass w.in-Ok.now w.in-Ok.next) c.who-who.ensures w.in-Ok.ensures.at,
-            (w.in-Ok.ensures.keeps.0 ∙ same.0, w.in-Ok.ensures.keeps.1 ∙ same.1),
-          )
-      | else-is_own w ↦
-          let here = slice_get_read cs _ c.loop-i.i c.index-commands-i.result refl inside c.index-commands-i.is in
-          let owned = own-is cs c.requires.script c.loop-i.i who c.index-commands-i.result here g.N.Making.made.core c.loop-i.pass c.loop-i.live c.loop-i.hand at in
-          let other = sym owned ∙ ap (λ (n : ℕ). is_own cs c.loop-i.live n c.index-commands-i.result) (sym c.who-who.ensures) ∙ sym c.is_own.ensures
-          ∙ w.if-is_own.false in
-          rw (w.pass-is, w.hand-is, w.live-is) (
-            omega arith,
-            refl,
-            at-other cs c.requires.script g.N.Making.made.core who c.loop-i.i c.loop-i.pass c.loop-i.live c.loop-i.hand c.index-commands-i.result here other at,
-            same,
-          )
-    ]
+    let core = g.N.Making.made.core in
+    let next = c.in-Some.ensures.next in
+    let size = c.requires.sessions.size in
+    let below = c.in-Some.ensures.inside in
+    let inside : c.in-Some.own ≤ length cs = omega arith in
+    subst (λ (n : ℕ). IsAt cs core n c.in-Some.own c.loop-own.pass c.loop-own.live c.loop-own.hand) (sym c.who-who.ensures)
+    (at-next cs c.requires.script c.args.sessions.now c.requires.sessions core c.args.pass.now.p.who c.requires.fresh.3 c.loop-own.pass c.loop-own.live
+    c.loop-own.hand c.loop-own.from c.loop-own.invariant.1 c.in-Some.own next.0 inside
+    (subst (λ (n : ℕ). NoneBetween c.args.sessions.now n c.loop-own.from c.in-Some.own) c.who-who.ensures next.2))
 
+pub run_own-requires-clause-own : goal.run_own-requires-clause-own
+run_own-requires-clause-own g c κs within =
+    let low = subst (λ (n : ℕ). 1 ≤ n) (sym c.who-who.ensures) c.requires.fresh.3 in
+    λ d at. own-at c.args.commands.now c.args.sessions.now c.who-who.result c.in-Some.own c.requires.sessions low c.in-Some.ensures.next.1 d at
+
+-- The list has no more of its commands, so it stands at the end.
 pub returns-clause-stands : goal.returns-clause-stands
 returns-clause-stands g c =
-    let low = c.loop-i.invariant.0 in
-    let whole = c.loop-i.invariant.1 in
-    let over = c.loop-i-test.false in
-    let end : c.loop-i.i ≡ length c.args.commands.now = omega arith in
-    let at : IsAt c.args.commands.now g.N.Making.made.core c.args.pass.now.p.who (length c.args.commands.now) c.loop-i.pass c.loop-i.live c.loop-i.hand =
-    subst (λ (n : ℕ). IsAt c.args.commands.now g.N.Making.made.core c.args.pass.now.p.who n c.loop-i.pass c.loop-i.live c.loop-i.hand) end
-    c.loop-i.invariant.2 in
-    subst (λ (p : PassSays). Standing g.N.Making.made.core p.p (blocks_of c.args.commands.now c.args.pass.now.p.who) Idle)
-    (sym (c.release.ensures.same (idle-at_end c.args.commands.now c.requires.script g.N.Making.made.core c.args.pass.now.p.who c.loop-i.pass
-    c.loop-i.live c.loop-i.hand at)))
-    (stands-at_end c.args.commands.now c.requires.script g.N.Making.made.core c.args.pass.now.p.who c.loop-i.pass c.loop-i.live c.loop-i.hand at)
+    let cs = c.args.commands.now in
+    let core = g.N.Making.made.core in
+    let who = c.args.pass.now.p.who in
+    let at = at-next cs c.requires.script c.args.sessions.now c.requires.sessions core who c.requires.fresh.3 c.loop-own.pass c.loop-own.live
+    c.loop-own.hand c.loop-own.from c.loop-own.invariant.1 (length cs) c.loop-own.invariant.0 (omega arith)
+    (subst (λ (n : ℕ). NoneBetween c.args.sessions.now who c.loop-own.from n) c.requires.sessions.size
+    (subst (λ (n : ℕ). NoneBetween c.args.sessions.now n c.loop-own.from (length c.args.sessions.now)) c.who-who.ensures c.in_default.ensures.next)) in
+    subst (λ (p : PassSays). Standing core p.p (blocks_of cs who) Idle)
+    (sym (c.release.ensures.same (idle-at_end cs c.requires.script core who c.loop-own.pass c.loop-own.live c.loop-own.hand at)))
+    (stands-at_end cs c.requires.script core who c.loop-own.pass c.loop-own.live c.loop-own.hand at)

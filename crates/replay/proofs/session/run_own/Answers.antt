@@ -1,8 +1,8 @@
-use Rattle.std.proofs.Common.{ℕ, ◌+◌, Option, refl, sym, ◌∙◌, subst}
+use Rattle.std.proofs.Common.{ℕ, ◌+◌, Option, refl, sym, subst}
 use Rattle.std.proofs.lemmas.Option.{slice_get_read}
 use Rattle.replay.specs.Running.{IsAt, Ran, SomeTurns}
 use Rattle.replay.proofs.Commands.{at-own}
-use Rattle.replay.proofs.Owning.{own-is, some-turns}
+use Rattle.replay.proofs.Owning.{some-turns}
 use Rattle.step_run.proofs.Stopping.{script_stops}
 use Rattle.replay.proofs.session.run_own.Goals as goal
 
@@ -18,10 +18,7 @@ returns-in-Ok-clause-at g c =
     (at-own c.args.commands.now c.requires.script g.N.Making.made.core c.args.who c.args.i c.args.pass.now c.run_command-ran.new.pass c.args.hand
     c.in-Ok.next c.in-Ok.ensures.keeps c.index-commands-i.result c.args.live
     (slice_get_read c.args.commands.now _ c.args.i c.index-commands-i.result refl c.requires.inside c.index-commands-i.is)
-    (sym (own-is c.args.commands.now c.requires.script c.args.i c.args.who c.index-commands-i.result
-    (slice_get_read c.args.commands.now _ c.args.i c.index-commands-i.result refl c.requires.inside c.index-commands-i.is) g.N.Making.made.core
-    c.args.pass.now c.args.live c.args.hand c.requires.at)
-    ∙ c.requires.own c.index-commands-i.result
+    (c.requires.own c.index-commands-i.result
     (slice_get_read c.args.commands.now _ c.args.i c.index-commands-i.result refl c.requires.inside c.index-commands-i.is))
     (subst
     (λ (t : Option ℕ). Ran g.N.Making.made.core (c.args.i + 2) t c.index-commands-i.result c.args.pass.now c.args.hand
