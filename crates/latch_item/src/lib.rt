@@ -14,5 +14,5 @@ pub use order::{
 };
 pub use read::{Facts, item_facts, item_span};
 pub use shot::Shot;
-pub use words::first_word;
+pub use words::{first_word, second_word};
 pub use write::write_item;

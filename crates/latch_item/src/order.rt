@@ -69,21 +69,29 @@ pub fn item_overlaps(rows: &Rows, seat: &mut RowSeat, a: u32, span: &Span) -> bo
     begins_before(rows, seat, a, span) && reaches(rows, seat, a, span)
 }
 
-/// How the item lies to a span, of whose key the first word is given. For two single keys one comparison is enough.
-pub fn side_of(rows: &Rows, seat: &mut RowSeat, a: u32, span: &Span, first: u64) -> Side
+/// How the item lies to a span, of whose key the first two words are given. For two single keys one comparison is enough.
+pub fn side_of(
+    rows: &Rows,
+    seat: &mut RowSeat,
+    a: u32,
+    span: &Span,
+    first: u64,
+    second: u64,
+) -> Side
     requires table { seat.old.table ≡ rows.now }
     requires item { (x : Item) × HasItem seat.old.view a x }
     requires first { first ≡ key_word_of span.now.0 0 }
+    requires second { second ≡ key_word_of span.now.0 1 }
     ensures same { seat.new ≡ seat.old }
     ensures side { (x : Item) → HasItem seat.old.view a x → result ≡ side_between (key_lt span.now.0 (past x.span)) (key_lt x.span.0 (past span.now)) }
 {
     let key = span.key().bytes();
-    match part_cmp_by(rows, seat, a, false, key, first) {
+    match part_cmp_by(rows, seat, a, false, key, first, second) {
         // It begins before the span's end, so its own end decides.
         Ordering::Less => {
             if is_point(rows, seat, a) {
                 Side::Before
-            } else if part_cmp_by(rows, seat, a, true, key, first).is_gt() {
+            } else if part_cmp_by(rows, seat, a, true, key, first, second).is_gt() {
                 Side::Overlaps
             } else {
                 Side::Before
@@ -151,10 +159,11 @@ fn part_cmp(rows: &Rows, seat: &mut RowSeat, a: u32, end: bool, bytes: &[u8]) ->
     ensures order { (x : Item) → HasItem seat.old.view a x → result ≡ key_cmp (part end x.span) bytes.now }
 {
     let first = key_word(bytes, 0);
-    part_cmp_by(rows, seat, a, end, bytes, first)
+    let second = key_word(bytes, 1);
+    part_cmp_by(rows, seat, a, end, bytes, first, second)
 }
 
-// The same where the key's first word is given. Words are compared up to the first that differs, and none past the shorter of the two.
+// The same where the key's first two words are given. Words are compared up to the first that differs.
 fn part_cmp_by(
     rows: &Rows,
     seat: &mut RowSeat,
@@ -162,11 +171,13 @@ fn part_cmp_by(
     end: bool,
     bytes: &[u8],
     first: u64,
+    second: u64,
 ) -> Ordering
     requires key { IsKey bytes.now }
     requires table { seat.old.table ≡ rows.now }
     requires item { (x : Item) × HasItem seat.old.view a x }
     requires first { first ≡ key_word_of bytes.now 0 }
+    requires second { second ≡ key_word_of bytes.now 1 }
     ensures same { seat.new ≡ seat.old }
     ensures order { (x : Item) → HasItem seat.old.view a x → result ≡ key_cmp (part end x.span) bytes.now }
 {
@@ -174,22 +185,47 @@ fn part_cmp_by(
     if word != first {
         word.cmp(&first)
     } else {
+        second_part_cmp(rows, seat, a, end, bytes, second)
+    }
+}
+
+// The same where the first words are equal. Behind its end a key has zeros, so the second words need no length.
+fn second_part_cmp(
+    rows: &Rows,
+    seat: &mut RowSeat,
+    a: u32,
+    end: bool,
+    bytes: &[u8],
+    second: u64,
+) -> Ordering
+    requires key { IsKey bytes.now }
+    requires table { seat.old.table ≡ rows.now }
+    requires item { (x : Item) × HasItem seat.old.view a x }
+    requires second { second ≡ key_word_of bytes.now 1 }
+    requires first { (x : Item) → HasItem seat.old.view a x → Agree (part end x.span) bytes.now 1 }
+    ensures same { seat.new ≡ seat.old }
+    ensures order { (x : Item) → HasItem seat.old.view a x → result ≡ key_cmp (part end x.span) bytes.now }
+{
+    let word = read_part(rows, seat, a, end, 1);
+    if word != second {
+        word.cmp(&second)
+    } else {
         later_part_cmp(rows, seat, a, end, bytes)
     }
 }
 
-// The same where the first words are equal.
+// The same where the first two words are equal. No word past the shorter of the two is compared.
 fn later_part_cmp(rows: &Rows, seat: &mut RowSeat, a: u32, end: bool, bytes: &[u8]) -> Ordering
     requires key { IsKey bytes.now }
     requires table { seat.old.table ≡ rows.now }
     requires item { (x : Item) × HasItem seat.old.view a x }
-    requires first { (x : Item) → HasItem seat.old.view a x → Agree (part end x.span) bytes.now 1 }
+    requires two { (x : Item) → HasItem seat.old.view a x → Agree (part end x.span) bytes.now 2 }
     ensures same { seat.new ≡ seat.old }
     ensures order { (x : Item) → HasItem seat.old.view a x → result ≡ key_cmp (part end x.span) bytes.now }
 {
     let len = read_len(rows, seat, a, end);
     let other_len = bytes.len() as u32;
-    for i in 1..words_to(len.min(other_len)) {
+    for i in 2..words_to(len.min(other_len)) {
         let word = read_part(rows, seat, a, end, i);
         let other = key_word(bytes, i);
         if word != other {
@@ -213,12 +249,13 @@ fn parts_cmp(rows: &Rows, seat: &mut RowSeat, a: u32, a_end: bool, b: u32, b_end
     if word != other {
         word.cmp(&other)
     } else {
-        later_parts_cmp(rows, seat, a, a_end, b, b_end)
+        second_parts_cmp(rows, seat, a, a_end, b, b_end)
     }
 }
 
 // The same where the first words are equal.
-fn later_parts_cmp(
+#[inline(always)]
+fn second_parts_cmp(
     rows: &Rows,
     seat: &mut RowSeat,
     a: u32,
@@ -233,9 +270,34 @@ fn later_parts_cmp(
     ensures same { seat.new ≡ seat.old }
     ensures order { (x y : Item) → HasItem seat.old.view a x → HasItem seat.old.view b y → result ≡ key_cmp (part a_end x.span) (part b_end y.span) }
 {
+    let word = read_part(rows, seat, a, a_end, 1);
+    let other = read_part(rows, seat, b, b_end, 1);
+    if word != other {
+        word.cmp(&other)
+    } else {
+        later_parts_cmp(rows, seat, a, a_end, b, b_end)
+    }
+}
+
+// The same where the first two words are equal.
+fn later_parts_cmp(
+    rows: &Rows,
+    seat: &mut RowSeat,
+    a: u32,
+    a_end: bool,
+    b: u32,
+    b_end: bool,
+) -> Ordering
+    requires table { seat.old.table ≡ rows.now }
+    requires one { (x : Item) × HasItem seat.old.view a x }
+    requires other { (y : Item) × HasItem seat.old.view b y }
+    requires two { (x y : Item) → HasItem seat.old.view a x → HasItem seat.old.view b y → Agree (part a_end x.span) (part b_end y.span) 2 }
+    ensures same { seat.new ≡ seat.old }
+    ensures order { (x y : Item) → HasItem seat.old.view a x → HasItem seat.old.view b y → result ≡ key_cmp (part a_end x.span) (part b_end y.span) }
+{
     let len = read_len(rows, seat, a, a_end);
     let other_len = read_len(rows, seat, b, b_end);
-    for i in 1..words_to(len.min(other_len)) {
+    for i in 2..words_to(len.min(other_len)) {
         let word = read_part(rows, seat, a, a_end, i);
         let other = read_part(rows, seat, b, b_end, i);
         if word != other {

@@ -11,6 +11,13 @@ pub fn first_word(key: &Key) -> u64
     key_word(key.bytes(), 0)
 }
 
+/// The eight bytes behind these. Where the first words of two keys are equal and these differ, the keys are in their order.
+pub fn second_word(key: &Key) -> u64
+    ensures { result ≡ key_word_of key.now 1 }
+{
+    key_word(key.bytes(), 1)
+}
+
 /// Eight bytes of a key, from the byte 8 i on, with zeros after the key's end.
 pub(crate) fn key_word(bytes: &[u8], i: u32) -> u64
     requires { i < 32 }

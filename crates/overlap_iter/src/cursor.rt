@@ -11,7 +11,7 @@ ghost use Rattle.latch_item.specs.Shape.{Refers};
 ghost use Rattle.overlap_iter.specs.Overlaps.{found};
 ghost use Rattle.overlap_iter.specs.Walks.{root_of, HasRoot, IsNodeKind, Opens, Framed, Walks, WalksWithin, Came, at_place, steps_left, entries_left};
 
-use latch_item::{Shot, Side, first_word, reaches, side_of};
+use latch_item::{Shot, Side, first_word, reaches, second_word, side_of};
 use row_pool::{RowSeat, Rows};
 use span_key::Span;
 
@@ -71,8 +71,9 @@ impl Cursor {
         ensures ends { IfSome result (λ _. steps_left self.new < steps_left self.old) }
     {
         let first = first_word(span.key());
+        let second = second_word(span.key());
         while self.low < self.height || self.next.is_some() {
-            if let Some(item) = self.step(rows, seat, span, first) {
+            if let Some(item) = self.step(rows, seat, span, first, second) {
                 return Some(item);
             }
         }
@@ -80,9 +81,17 @@ impl Cursor {
     }
 
     // A node is entered or left, or an item is passed. The answer is the item, where it overlaps the span.
-    fn step(&mut self, rows: &Rows, seat: &mut RowSeat, span: &Span, first: u64) -> Option<u32>
+    fn step(
+        &mut self,
+        rows: &Rows,
+        seat: &mut RowSeat,
+        span: &Span,
+        first: u64,
+        second: u64,
+    ) -> Option<u32>
         requires table { seat.old.table ≡ rows.now }
         requires first { first ≡ key_word span.now.0 0 }
+        requires second { second ≡ key_word span.now.0 1 }
         requires walk { (root : Tree) × (todo : List Tree) × (work : ℕ) × HasRoot seat.old.view root × Walks span.now root self.old todo work }
         requires more { self.old.next ≡ None → self.old.low < self.old.height }
         ensures same { (seat.new.table ≡ seat.old.table) × (seat.new.view ≡ seat.old.view) }
@@ -96,7 +105,7 @@ impl Cursor {
                 self.enter(rows, seat, span, row);
                 None
             }
-            None => self.look(rows, seat, span, first),
+            None => self.look(rows, seat, span, first, second),
         }
     }
 
@@ -120,9 +129,17 @@ impl Cursor {
     }
 
     // The lowest node is left, or its next item is passed. The answer is the item, where it overlaps the span.
-    fn look(&mut self, rows: &Rows, seat: &mut RowSeat, span: &Span, first: u64) -> Option<u32>
+    fn look(
+        &mut self,
+        rows: &Rows,
+        seat: &mut RowSeat,
+        span: &Span,
+        first: u64,
+        second: u64,
+    ) -> Option<u32>
         requires table { seat.old.table ≡ rows.now }
         requires first { first ≡ key_word span.now.0 0 }
+        requires second { second ≡ key_word span.now.0 1 }
         requires walk { (root : Tree) × (todo : List Tree) × (work : ℕ) × HasRoot seat.old.view root × Walks span.now root self.old todo work }
         requires more { (self.old.next ≡ None) × (self.old.low < self.old.height) }
         ensures same { (seat.new.table ≡ seat.old.table) × (seat.new.view ≡ seat.old.view) }
@@ -138,7 +155,7 @@ impl Cursor {
             return None;
         }
         let item = follow(rows, seat, row, FIRST_ITEM + place);
-        match side_of(rows, seat, item, span, first) {
+        match side_of(rows, seat, item, span, first, second) {
             Side::Before => {
                 self.open(rows, seat, place + 1);
                 None

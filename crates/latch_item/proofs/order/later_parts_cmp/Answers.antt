@@ -6,7 +6,7 @@ use Rattle.latch_item.proofs.Comparing.{part-fits, agree-more, differ-at, same-w
 use Rattle.latch_item.proofs.order.later_parts_cmp.Goals as goal
 
 pub loop-i-init : goal.loop-i-init
-loop-i-init c = record { same = c.read_len-other_len.ensures.same ∙ c.read_len-len.ensures.same; alike = c.requires.first }
+loop-i-init c = record { same = c.read_len-other_len.ensures.same ∙ c.read_len-len.ensures.same; alike = c.requires.two }
 
 pub read_part-word-requires-clause-item : goal.read_part-word-requires-clause-item
 read_part-word-requires-clause-item c = some-kept c.args.seat.now c.loop-i.seat c.args.a c.loop-i.invariant.same c.requires.one

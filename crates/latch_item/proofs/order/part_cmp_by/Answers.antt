@@ -13,8 +13,8 @@ returns-then-word-first-clause-order c = λ x b.
     ∙ sym (differ-at p c.args.bytes.now 0 (part-fits c.args.end x.span (valid-of c.args.seat.now.view c.args.a x b).span) c.requires.key (omega arith)
     (agree-none p c.args.bytes.now) (λ e. c.if-word-first.true (m ∙ e ∙ sym c.requires.first)))
 
-pub later_part_cmp-requires-clause-first : goal.later_part_cmp-requires-clause-first
-later_part_cmp-requires-clause-first c = λ x b'.
+pub second_part_cmp-requires-clause-first : goal.second_part_cmp-requires-clause-first
+second_part_cmp-requires-clause-first c = λ x b'.
     let b = kept-back c.args.seat.now c.read_part-word.new.seat c.args.a x c.read_part-word.ensures.same b' in
     let p = part c.args.end x.span in
     agree-more p c.args.bytes.now 0 (agree-none p c.args.bytes.now) (sym (c.read_part-word.ensures.word x b) ∙ c.if-word-first.false
@@ -22,4 +22,4 @@ later_part_cmp-requires-clause-first c = λ x b'.
 
 pub returns-else-word-first-clause-order : goal.returns-else-word-first-clause-order
 returns-else-word-first-clause-order c = λ x b.
-    c.later_part_cmp.ensures.order x (kept c.args.seat.now c.read_part-word.new.seat c.args.a x c.read_part-word.ensures.same b)
+    c.second_part_cmp.ensures.order x (kept c.args.seat.now c.read_part-word.new.seat c.args.a x c.read_part-word.ensures.same b)

@@ -15,8 +15,8 @@ returns-then-word-other-clause-order c = λ x y b d.
     ∙ sym (differ-at p q 0 (part-fits c.args.a_end x.span (valid-of v.view c.args.a x b).span)
     (part-fits c.args.b_end y.span (valid-of v.view c.args.b y d).span) (omega arith) (agree-none p q) (λ e. c.if-word-other.true (m ∙ e ∙ sym n)))
 
-pub later_parts_cmp-requires-clause-first : goal.later_parts_cmp-requires-clause-first
-later_parts_cmp-requires-clause-first c = λ x y b' d'.
+pub second_parts_cmp-requires-clause-first : goal.second_parts_cmp-requires-clause-first
+second_parts_cmp-requires-clause-first c = λ x y b' d'.
     let v = c.args.seat.now in
     let same = c.read_part-other.ensures.same ∙ c.read_part-word.ensures.same in
     let b = kept-back v c.read_part-other.new.seat c.args.a x same b' in
@@ -30,4 +30,4 @@ pub returns-else-word-other-clause-order : goal.returns-else-word-other-clause-o
 returns-else-word-other-clause-order c = λ x y b d.
     let v = c.args.seat.now in
     let same = c.read_part-other.ensures.same ∙ c.read_part-word.ensures.same in
-    c.later_parts_cmp.ensures.order x y (kept v c.read_part-other.new.seat c.args.a x same b) (kept v c.read_part-other.new.seat c.args.b y same d)
+    c.second_parts_cmp.ensures.order x y (kept v c.read_part-other.new.seat c.args.a x same b) (kept v c.read_part-other.new.seat c.args.b y same d)
