@@ -1,7 +1,7 @@
 -- The list of sessions tells which commands are a session's own; and what a script says of each.
 use Rattle.std.proofs.Common.{◌≡◌, ◌≢◌, ℕ, zero, suc, ◌+◌, ◌-◌, ◌==◌, ◌<◌, ◌≤◌, true, false, List, [], ◌∷◌, length, slice_get, Option, Some, None, IfSome}
 use Rattle.std.proofs.Common.{refl, sym, ◌∙◌, ap, subst, arith, inl, inr}
-use Rattle.std.proofs.lemmas.Bool.{cases_lt, eq-eqb, eqb-true, false_from_ne_true}
+use Rattle.std.proofs.lemmas.Bool.{eq-eqb, eqb-true, false_from_ne_true}
 use Rattle.std.proofs.lemmas.List.Elements.{All-contains}
 use Rattle.std.proofs.Math.Seq.{take-length}
 use Rattle.latch_model.proofs.Lists.{Contains-from_In, In}
@@ -33,19 +33,6 @@ other-at : (cs : List Command) (ss : List ℕ) (w k s : ℕ) (c : Command) → A
     → slice_get ss k ≢ Some w → is_of cs w c ≡ false
 other-at cs ss w k s c are low at_c at_s differs =
     are.each k s c at_c at_s w low ∙ false_from_ne_true (s == w) (λ e. differs (at_s ∙ ap Some (eqb-true s w e)))
-
--- a search that found another number at place k
-pub none-more : (ss : List ℕ) (w i k s : ℕ) → slice_get ss k ≡ Some s → (s == w) ≡ false → NoneBetween ss w i k → NoneBetween ss w i (k + 1)
-none-more ss w i k s at_s other none j from below e =
-    elim (cases_lt j k) [
-      | inl lt ↦ none j from lt e
-      | inr le ↦
-          let here : j ≡ k = omega arith in
-          found (sym at_s ∙ (ap (slice_get ss) (sym here) ∙ e))
-    ]
-  where
-    found : Some s ≡ Some w → ⊥
-    found f = let same : s ≡ w = cc in let true_too = eq-eqb s w same in cc
 
 -- So a session stands behind the commands of others as it stood in front of them.
 module _ (cs : List Command) (s : IsScript cs) (ss : List ℕ) (are : AreSessions cs ss) (core : CoreId) (w : ℕ) (low : 1 ≤ w) (pass : PassSays)
